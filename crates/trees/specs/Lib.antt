@@ -1,0 +1,6 @@
+pub mod Shapes
+pub mod Refusals
+pub mod Trees
+pub mod Nodes
+pub mod Reading
+pub mod Stacks
