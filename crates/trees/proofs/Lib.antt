@@ -1,1 +1,5 @@
+pub mod Limits
 pub mod Turns
+pub mod Listed
+pub mod Fronts
+pub mod Ends

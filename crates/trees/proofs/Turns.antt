@@ -68,6 +68,13 @@ grown-length sh room n a m ts f e = go (ltb a (sh .leaves)) refl
     go true h = omega arith
     go false h = under-length a m ts (let two = f .joins h in omega arith) ∙ ap (λ (x : ℕ). x - 1) e
 
+pub opened-pos : (sh : Shape) (room : ℕ → Bool) (n a m : ℕ) → Fine sh room n a m → 1 ≤ opened sh n a
+opened-pos sh room n a m f = go (ltb a (sh .leaves)) refl
+  where
+    go : (b : Bool) → ltb a (sh .leaves) ≡ b → 1 ≤ cond b (n + 1) (n - 1)
+    go true e = omega arith
+    go false e = let two = f .joins e in omega arith
+
 pub opened-le : (sh : Shape) (n a : ℕ) → opened sh n a ≤ n + 1
 opened-le sh n a = go (ltb a (sh .leaves))
   where

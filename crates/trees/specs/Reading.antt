@@ -5,6 +5,7 @@
 --   node-refusal      the first refusal due at one node: 14, 15, 16, 17 in this order
 --   rest-refusal      the first refusal due from node k on, with so many parts open before it
 --   first-refusal     the first refusal due of the whole listing: 13 before any node is looked at
+--   outcome           what a reading answers: the refusal, or nothing where none is due
 --   stack-need t      the most parts that are open at once while the listing of t is read
 --   Reads .. t        the bytes are the listing of t, a tree of the shape, within the stack and 8,192 bytes
 --   GoesOn            the bytes begin the listing of some tree of the shape within the stack
@@ -18,6 +19,8 @@ use lib.Dec.{ltb, leb, eqb}
 use lib.ListN.{length, take}
 use Rattle.std.specs.declared.option.Option.{Option}
 use Rattle.std.specs.declared.option.Option.the-variants.{Some, None}
+use Rattle.std.specs.declared.result.Result.{Result}
+use Rattle.std.specs.declared.result.Result.the-variants.{Ok, Err}
 use Rattle.trees.specs.declared.shape.Shape.{Shape}
 use Rattle.trees.specs.declared.refusal.Reason.{Reason}
 use Rattle.trees.specs.declared.refusal.Reason.the-variants.{BadLength, UnknownLabel, UnknownMarks, MissingParts, StackFull, NotOneTree}
@@ -59,6 +62,11 @@ rest-refusal sh room k height (a ∷ m ∷ bs) =
 abbrev pub first-refusal : Shape → (ℕ → Bool) → List ℕ → Option Refusal
 first-refusal sh room bs =
     check (leb (length bs) 8192 && eqb (length bs % 2) 0) (refusal BadLength 0) (rest-refusal sh room 0 0 bs)
+
+-- what a reading answers
+abbrev pub outcome : Option Refusal → Result (Unit {0}) Refusal
+outcome None = Ok tt
+outcome (Some e) = Err e
 
 abbrev pub stack-need : Tree → ℕ
 stack-need (leaf a m) = 1

@@ -7,7 +7,7 @@ ghost use lib.ListN.{length};
 ghost use Rattle.std.specs.Results.{Cases};
 ghost use Rattle.std.specs.declared.option.Option.the-variants.{Some, None};
 ghost use Rattle.trees.specs.Trees.{Tree, leaf, inner};
-ghost use Rattle.trees.specs.Reading.{node-refusal, opened, rest-refusal, first-refusal, Answers, Reads};
+ghost use Rattle.trees.specs.Reading.{node-refusal, opened, rest-refusal, first-refusal, outcome, Answers, Reads};
 ghost use Rattle.trees.specs.Stacks.{grown, parts};
 use crate::fold::Fold;
 use crate::refusal::Origin;
@@ -81,4 +81,14 @@ fn read_nodes<F: Fold>(shape: Shape, listing: &[u8], fold: &mut F) -> Result<(),
         return Err(refused(Reason::NotOneTree, place));
     }
     Ok(())
+}
+
+// Reads a listing into a fold: refuses with the first refusal due, or leaves the fold holding the one tree whose listing it is.
+pub fn read<F: Fold>(shape: Shape, listing: &[u8], fold: &mut F) -> Result<(), Refusal>
+    ensures due { λ r. ⌜ r ≡ outcome (first-refusal shape (F·Fold .room (now (fold .entry))) (now (listing .entry))) ⌝ }
+    ensures answers { λ _. ⌜ Answers shape (F·Fold .room (now (fold .entry))) (now (listing .entry)) ⌝ }
+    ensures made { λ _. ⌜ ((t : Tree) → Reads shape (F·Fold .room (now (fold .entry))) (now (listing .entry)) t → F·Fold .holds (now (fold .entry)) [] → F·Fold .holds (now (fold .exit)) (t ∷ [])) ⌝ }
+    ensures same { λ _. ⌜ F·Fold .room (now (fold .exit)) ≡ F·Fold .room (now (fold .entry)) ⌝ }
+{
+    read_nodes(shape, listing, fold)
 }
