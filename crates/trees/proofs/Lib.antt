@@ -3,3 +3,5 @@ pub mod Turns
 pub mod Listed
 pub mod Fronts
 pub mod Ends
+pub mod Values
+pub mod Splits

@@ -4,3 +4,4 @@ pub mod Trees
 pub mod Nodes
 pub mod Reading
 pub mod Stacks
+pub mod Parts

@@ -1,10 +1,15 @@
 // Marked trees: their shape, what a refusal says, and the one reader of listings.
 mod fold;
-mod read;
+mod parts;
+mod reader;
 mod refusal;
 mod shape;
 
 pub use fold::Fold;
+pub use parts::split;
+pub use parts::Root;
+pub use reader::read;
+pub use reader::LONGEST;
 pub use refusal::Origin;
 pub use refusal::Reason;
 pub use refusal::Refusal;

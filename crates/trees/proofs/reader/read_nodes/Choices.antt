@@ -5,7 +5,7 @@ use lib.ListN.{length}
 use Rattle.trees.specs.Trees.{Tree}
 use Rattle.trees.specs.Stacks.{parts}
 use Rattle.trees.specs.Reading.{rest-refusal}
-use Rattle.trees.proofs.read.read_nodes.Given as given
+use Rattle.trees.proofs.reader.read_nodes.Given as given
 
 abbrev pub Inv-loop-bytes : given.InvT-loop-bytes
 Inv-loop-bytes g l =

@@ -8,7 +8,7 @@ use Rattle.std.proofs.shelf.Lists.{take-rest}
 use Rattle.std.specs.declared.option.Option.the-variants.{None}
 use Rattle.trees.specs.Reading.{node-refusal}
 use Rattle.trees.proofs.Turns.{turn-refusal, turn-parts, opened-le}
-use Rattle.trees.proofs.read.read_nodes.Needs as need
+use Rattle.trees.proofs.reader.read_nodes.Needs as need
 
 pub loop-bytes-again : need.loop-bytes-again
 loop-bytes-again g c =

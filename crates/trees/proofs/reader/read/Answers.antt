@@ -1,7 +1,7 @@
 use denote.Ref.{now}
 use Rattle.trees.proofs.Fronts.{answers}
 use Rattle.trees.proofs.Ends.{outcome-from, tree-held}
-use Rattle.trees.proofs.read.read.Needs as need
+use Rattle.trees.proofs.reader.read.Needs as need
 
 pub returns : need.returns
 returns g c =
