@@ -5,3 +5,7 @@ pub mod Fronts
 pub mod Ends
 pub mod Values
 pub mod Splits
+pub mod Bits
+pub mod PutBits
+pub mod Puts
+pub mod Children

@@ -33,7 +33,7 @@ listing-ends : (t : Tree) → listing t ≡ body t ++ (label t ∷ marks t ∷ [
 listing-ends (leaf a m) = refl
 listing-ends (inner a m l r) = sym (append-assoc (listing l) (listing r) (a ∷ m ∷ []))
 
-length-listing : (t : Tree) → length (listing t) ≡ size t * 2
+pub length-listing : (t : Tree) → length (listing t) ≡ size t * 2
 length-listing (leaf a m) = refl
 length-listing (inner a m l r) = simp length-append (omega (arith, length-listing l, length-listing r))
 

@@ -5,3 +5,4 @@ pub mod Nodes
 pub mod Reading
 pub mod Stacks
 pub mod Parts
+pub mod Laws

@@ -1,11 +1,15 @@
 // Marked trees: their shape, what a refusal says, and the one reader of listings.
 mod fold;
+mod laws;
 mod parts;
 mod reader;
 mod refusal;
 mod shape;
 
 pub use fold::Fold;
+pub use laws::node_laws;
+pub use laws::put_laws;
+pub use laws::reading_examples;
 pub use parts::split;
 pub use parts::Root;
 pub use reader::read;

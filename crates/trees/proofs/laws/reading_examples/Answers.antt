@@ -1,0 +1,5 @@
+use mathlib.Core.Path.{refl}
+use Rattle.trees.proofs.laws.reading_examples.Needs as need
+
+pub returns : need.returns
+returns c = refl
