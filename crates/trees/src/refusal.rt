@@ -66,3 +66,46 @@ impl Reason {
         }
     }
 }
+
+pub impl fmt::Display for Reason as ReasonDisplay {
+    fn fmt<W: fmt::Write>(&self, f: &mut fmt::Formatter<W>) -> fmt::Result {
+        match self {
+            Reason::OutsideLimits => f.write_str("a number is outside its limits"),
+            Reason::StoreTooShort => f.write_str("the store is too short"),
+            Reason::NoSuchSlot => f.write_str("there is no such slot"),
+            Reason::SlotTaken => f.write_str("the result slot is taken"),
+            Reason::SlotEmpty => f.write_str("the slot is empty"),
+            Reason::NoSuchTrack => f.write_str("there is no such track"),
+            Reason::NoSuchLabel => f.write_str("there is no such label"),
+            Reason::MemoryTooShort => f.write_str("there is too little working memory"),
+            Reason::TooManyStates => f.write_str("there are too many states"),
+            Reason::BufferTooShort => f.write_str("the answer buffer is too short"),
+            Reason::ShapesDiffer => f.write_str("the shapes differ"),
+            Reason::CountTooLarge => f.write_str("the count is too large"),
+            Reason::BadLength => f.write_str("the listing is longer than 8192 bytes or has an odd number of them"),
+            Reason::UnknownLabel => f.write_str("the node has a label that the shape lacks"),
+            Reason::UnknownMarks => f.write_str("the node has a mark that the shape lacks"),
+            Reason::MissingParts => f.write_str("the inner node has fewer than two open parts under it"),
+            Reason::StackFull => f.write_str("the stack has no free place for the leaf"),
+            Reason::NotOneTree => f.write_str("the listing does not end in exactly one tree"),
+        }
+    }
+}
+
+pub impl fmt::Display for Origin as OriginDisplay {
+    fn fmt<W: fmt::Write>(&self, f: &mut fmt::Formatter<W>) -> fmt::Result {
+        match self {
+            Origin::Trees => f.write_str("trees"),
+            Origin::Machines => f.write_str("machines"),
+            Origin::Rack => f.write_str("rack"),
+        }
+    }
+}
+
+pub impl fmt::Display for Refusal as RefusalDisplay {
+    fn fmt<W: fmt::Write>(&self, f: &mut fmt::Formatter<W>) -> fmt::Result {
+        let number = self.reason.number();
+        let Refusal { reason, place, origin } = *self;
+        write!(f, "refusal {number} at place {place}, from {origin}: {reason}")
+    }
+}
