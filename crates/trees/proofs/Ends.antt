@@ -22,7 +22,7 @@ outcome-from o (Ok u) h = sym (ap outcome h)
 outcome-from o (Err e) h = sym (ap outcome h)
 
 pub tree-held : (sh : Shape) (room : ℕ → Bool) (bs : List ℕ) (P : Type 0) (Q : List Tree → Type 0) (r : Result (Unit {0}) Refusal)
-  → r ≡ outcome (first-refusal sh room bs) → Cases r (λ _. P → Q (parts (sh .leaves) bs [])) (λ _. Unit {0}) → (t : Tree) → Reads sh room bs t → P → Q (t ∷ [])
+    → r ≡ outcome (first-refusal sh room bs) → Cases r (λ _. P → Q (parts (sh .leaves) bs [])) (λ _. Unit {0}) → (t : Tree) → Reads sh room bs t → P → Q (t ∷ [])
 tree-held sh room bs P Q (Ok u) h made t reads p =
     subst Q (ap (λ (x : List ℕ). parts (sh .leaves) x []) (reads .listed) ∙ parts-listing sh t (reads .shaped)) (made p)
 tree-held sh room bs P Q (Err e) h made t reads p =

@@ -55,13 +55,20 @@ module _ (sh : Shape) (room : ℕ → Bool) where
   closes i t (u ∷ ts) h =
       let top = inner (sh .leaves) 0 u t in
       let held : Held sh room (top ∷ ts)
-            = (((omega arith, omega arith), pow-pos (sh .tracks), h .2 .0, h .0),
-              above-join sh room (length ts) (sh .leaves) 0 u t (h .2 .1) (λ p l. subst (λ (x : ℕ). room x ≡ true) (omega arith) (h .1 p l)), h .2 .2) in
-      let on = closes i top ts held in
-      (on .0, sh .leaves ∷ 0 ∷ on .1, on .2, on .3,
+      = (
+        ((omega arith, omega arith), pow-pos (sh .tracks), h .2 .0, h .0),
+        above-join sh room (length ts) (sh .leaves) 0 u t (h .2 .1) (λ p l. subst (λ (x : ℕ). room x ≡ true) (omega arith) (h .1 p l)),
+        h .2 .2,
+      ) in
+      let on = closes i top ts held in (
+        on .0,
+        sh .leaves ∷ 0 ∷ on .1,
+        on .2,
+        on .3,
         spelled-then ts (listing u ++ (listing t ++ [])) (sh .leaves ∷ 0 ∷ on .1)
-        ∙ (ap (spelled ts) (split u t (on .1))
-        ∙ (sym (spelled-then ts (listing top ++ []) (on .1)) ∙ on .4)))
+            ∙ (ap (spelled ts) (split u t (on .1))
+            ∙ (sym (spelled-then ts (listing top ++ []) (on .1)) ∙ on .4)),
+      )
     where
       split : (u t : Tree) (more : List ℕ) → (listing u ++ (listing t ++ [])) ++ (sh .leaves ∷ 0 ∷ more) ≡ (listing (inner (sh .leaves) 0 u t) ++ []) ++ more
       split u t more = simp (append-assoc, append-nil)
@@ -70,10 +77,10 @@ module _ (sh : Shape) (room : ℕ → Bool) where
   node-place : (k n a m : ℕ) (e : Refusal) → node-refusal sh room k n a m ≡ Some e → e .place ≡ k
   node-place k n a m e h =
       subst (Placed k) h
-        (placed-check k (ltb a (labels sh)) (refusal UnknownLabel k) _ refl
-        (placed-check k (ltb m (2 ^ sh .tracks)) (refusal UnknownMarks k) _ refl
-        (placed-check k (ltb a (sh .leaves) || leb 2 n) (refusal MissingParts k) _ refl
-        (placed-check k (not (ltb a (sh .leaves)) || room n) (refusal StackFull k) None refl tt))))
+      (placed-check k (ltb a (labels sh)) (refusal UnknownLabel k) _ refl
+      (placed-check k (ltb m (2 ^ sh .tracks)) (refusal UnknownMarks k) _ refl
+      (placed-check k (ltb a (sh .leaves) || leb 2 n) (refusal MissingParts k) _ refl
+      (placed-check k (not (ltb a (sh .leaves)) || room n) (refusal StackFull k) None refl tt))))
 
   -- a refusal at a node n nodes on
   record Due (k height : ℕ) (bs : List ℕ) (e : Refusal) : Type 0 where
@@ -92,7 +99,7 @@ module _ (sh : Shape) (room : ℕ → Bool) where
   due (a ∷ m ∷ bs) k n e h at = go (λ h. due bs (k + 1) (opened sh n a) e h at) (node-refusal sh room k n a m) refl h
     where
       go : (rest-refusal sh room (k + 1) (opened sh n a) bs ≡ Some e → Due (k + 1) (opened sh n a) bs e)
-        → (o : Option Refusal) → node-refusal sh room k n a m ≡ o → or-else o (rest-refusal sh room (k + 1) (opened sh n a) bs) ≡ Some e → Due k n (a ∷ m ∷ bs) e
+          → (o : Option Refusal) → node-refusal sh room k n a m ≡ o → or-else o (rest-refusal sh room (k + 1) (opened sh n a) bs) ≡ Some e → Due k n (a ∷ m ∷ bs) e
       go later None eq h =
           let d = later h in
           record {
@@ -100,7 +107,7 @@ module _ (sh : Shape) (room : ℕ → Bool) where
             is = omega (arith, d .is);
             there = omega (arith, d .there);
             stays = λ more. ap (λ (x : List ℕ). rest-refusal sh room k n (x ++ more)) (front-more (suc (d .on)) a m bs)
-              ∙ (ap (λ (o : Option Refusal). or-else o (rest-refusal sh room (k + 1) (opened sh n a) (front (suc (d .on)) bs ++ more))) eq ∙ d .stays more)
+                ∙ (ap (λ (o : Option Refusal). or-else o (rest-refusal sh room (k + 1) (opened sh n a) (front (suc (d .on)) bs ++ more))) eq ∙ d .stays more);
           }
       go later (Some x) eq h =
           record {
@@ -108,12 +115,12 @@ module _ (sh : Shape) (room : ℕ → Bool) where
             is = ap (λ (y : Refusal). y .place) (sym (some-inj x e h)) ∙ (node-place k n a m x eq ∙ (omega arith));
             there = omega arith;
             stays = λ more. ap (λ (y : List ℕ). rest-refusal sh room k n (y ++ more)) (front-more 0 a m bs)
-              ∙ (ap (λ (o : Option Refusal). or-else o (rest-refusal sh room (k + 1) (opened sh n a) (front 0 bs ++ more))) eq ∙ h)
+                ∙ (ap (λ (o : Option Refusal). or-else o (rest-refusal sh room (k + 1) (opened sh n a) (front 0 bs ++ more))) eq ∙ h);
           }
 
   -- the nodes before it go on
   goes-on : 1 ≤ sh .inners → (j : ℕ) (bs : List ℕ) (ts : List Tree) (k : ℕ) (e : Refusal) → Held sh room ts → rest-refusal sh room k (length ts) bs ≡ Some e
-    → AtNode (e .reason) → k + j ≤ e .place → 1 ≤ length ts + j → GoesOn sh room (spelled ts (front j bs))
+      → AtNode (e .reason) → k + j ≤ e .place → 1 ≤ length ts + j → GoesOn sh room (spelled ts (front j bs))
   goes-on i zero bs ts k e held h at le some = start ts held some
     where
       start : (us : List Tree) → Held sh room us → 1 ≤ length us + 0 → GoesOn sh room (spelled us [])
@@ -125,14 +132,14 @@ module _ (sh : Shape) (room : ℕ → Bool) where
       go (λ us ok h some. goes-on i j bs us (k + 1) e ok h at (omega arith) some) (node-refusal sh room k (length ts) a m) refl h
     where
       go : ((us : List Tree) → Held sh room us → rest-refusal sh room (k + 1) (length us) bs ≡ Some e → 1 ≤ length us + j → GoesOn sh room (spelled us (front j bs)))
-        → (o : Option Refusal) → node-refusal sh room k (length ts) a m ≡ o → or-else o (rest-refusal sh room (k + 1) (opened sh (length ts) a) bs) ≡ Some e
-        → GoesOn sh room (spelled ts (front (suc j) (a ∷ m ∷ bs)))
+          → (o : Option Refusal) → node-refusal sh room k (length ts) a m ≡ o → or-else o (rest-refusal sh room (k + 1) (opened sh (length ts) a) bs) ≡ Some e
+          → GoesOn sh room (spelled ts (front (suc j) (a ∷ m ∷ bs)))
       go later None eq h =
           let f = fine sh room k (length ts) a m eq in
           let n = grown-length sh room (length ts) a m ts f refl in
           subst (GoesOn sh room) (spelled-grown sh room a m ts (front j bs) f ∙ ap (spelled ts) (sym (front-more j a m bs)))
-            (later (grown (sh .leaves) a m ts) (held-grown sh room a m ts held f)
-              (ap (λ (x : ℕ). rest-refusal sh room (k + 1) x bs) n ∙ h) (omega (arith, n, opened-pos sh room (length ts) a m f)))
+          (later (grown (sh .leaves) a m ts) (held-grown sh room a m ts held f)
+          (ap (λ (x : ℕ). rest-refusal sh room (k + 1) x bs) n ∙ h) (omega (arith, n, opened-pos sh room (length ts) a m f)))
       go later (Some x) eq h = absurd (let p = node-place k (length ts) a m x eq in let q = ap (λ (y : Refusal). y .place) (some-inj x e h) in omega arith)
 
   stops : Limited sh → (bs : List ℕ) (e : Refusal) → rest-refusal sh room 0 0 bs ≡ Some e → AtNode (e .reason) → Stops sh room bs (e .place)
@@ -144,7 +151,7 @@ module _ (sh : Shape) (room : ℕ → Bool) where
         there = omega (arith, d .there, p);
         before = λ n some le. goes-on i n bs [] 0 e tt h at (omega arith) (omega arith);
         here = λ on. not-none e (sym (read-listing sh room (on .0) (on .2) (on .3)) ∙ (ap (rest-refusal sh room 0 0) (sym (on .4))
-          ∙ (ap (λ (x : ℕ). rest-refusal sh room 0 0 (front x bs ++ on .1)) (let q : e .place + 1 ≡ suc (d .on) = omega arith in q) ∙ d .stays (on .1))))
+            ∙ (ap (λ (x : ℕ). rest-refusal sh room 0 0 (front x bs ++ on .1)) (let q : e .place + 1 ≡ suc (d .on) = omega arith in q) ∙ d .stays (on .1))));
       }
 
   even : (t : Tree) → length (listing t) % 2 ≡ 0
@@ -160,18 +167,19 @@ module _ (sh : Shape) (room : ℕ → Bool) where
 
 pub answers : (sh : Shape) (room : ℕ → Bool) (bs : List ℕ) → Answers sh room bs
 answers sh room bs = record {
-    reads = (fore, back);
-    one-tree = λ t u p q. one-tree sh t u (p .shaped) (q .shaped) (sym (p .listed) ∙ q .listed);
-    stops = λ ok e h at. stops sh room ok bs e (due-short sh room bs e h at) at
-  }
+  reads = (fore, back);
+  one-tree = λ t u p q. one-tree sh t u (p .shaped) (q .shaped) (sym (p .listed) ∙ q .listed);
+  stops = λ ok e h at. stops sh room ok bs e (due-short sh room bs e h at) at;
+}
   where
     fore : first-refusal sh room bs ≡ None → (t : Tree) × Reads sh room bs t
     fore e =
         let p = passed _ _ _ e in
         let w = listed sh room bs (p .1) in
         (w .0, record { shaped = w .1; stacked = w .2; listed = w .3; short = leb-true (length bs) 8192 (and-parts _ _ (p .0) .0) })
+
     back : (t : Tree) × Reads sh room bs t → first-refusal sh room bs ≡ None
     back (t, r) =
         ap (λ (b : Bool). check b (refusal BadLength 0) (rest-refusal sh room 0 0 bs))
-          (and-from _ _ (le-leb (length bs) 8192 (r .short)) (eq-eqb (length bs % 2) 0 (ap (λ (x : List ℕ). length x % 2) (r .listed) ∙ even sh room t)))
+        (and-from _ _ (le-leb (length bs) 8192 (r .short)) (eq-eqb (length bs % 2) 0 (ap (λ (x : List ℕ). length x % 2) (r .listed) ∙ even sh room t)))
         ∙ (ap (rest-refusal sh room 0 0) (r .listed) ∙ read-listing sh room t (r .shaped) (r .stacked))

@@ -24,5 +24,5 @@ bounds sh h =
     record {
       leaves = within-bounds 1 8 (sh .leaves) (p .0);
       inners = within-bounds 1 4 (sh .inners) (q .0);
-      tracks = within-bounds 1 6 (sh .tracks) (q .1)
+      tracks = within-bounds 1 6 (sh .tracks) (q .1);
     }

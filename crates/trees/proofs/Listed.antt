@@ -28,30 +28,30 @@ listing-then a m l r rest =
 
 module _ (sh : Shape) (room : ℕ → Bool) where
   none-due : (k n a m : ℕ) → a < labels sh → m < 2 ^ sh .tracks → (ltb a (sh .leaves) || leb 2 n) ≡ true → (not (ltb a (sh .leaves)) || room n) ≡ true
-    → node-refusal sh room k n a m ≡ None
+      → node-refusal sh room k n a m ≡ None
   none-due k n a m h i j o =
       holds-check _ _ _ (lt-ltb a (labels sh) h) ∙ (holds-check _ _ _ (lt-ltb m (2 ^ sh .tracks) i) ∙ (holds-check _ _ _ j ∙ holds-check _ _ _ o))
 
   past : (k n n′ a m : ℕ) (rest : List ℕ) → node-refusal sh room k n a m ≡ None → opened sh n a ≡ n′
-    → rest-refusal sh room k n (a ∷ m ∷ rest) ≡ rest-refusal sh room (k + 1) n′ rest
+      → rest-refusal sh room k n (a ∷ m ∷ rest) ≡ rest-refusal sh room (k + 1) n′ rest
   past k n n′ a m rest e o =
       ap (λ (x : Option Refusal). or-else x (rest-refusal sh room (k + 1) (opened sh n a) rest)) e ∙ ap (λ (x : ℕ). rest-refusal sh room (k + 1) x rest) o
 
   past-leaf : (k n a m : ℕ) (rest : List ℕ) → a < sh .leaves → m < 2 ^ sh .tracks → room n ≡ true
-    → rest-refusal sh room k n (a ∷ m ∷ rest) ≡ rest-refusal sh room (k + 1) (n + 1) rest
+      → rest-refusal sh room k n (a ∷ m ∷ rest) ≡ rest-refusal sh room (k + 1) (n + 1) rest
   past-leaf k n a m rest h i o =
       let t = lt-ltb a (sh .leaves) h in
       past k n (n + 1) a m rest
-        (none-due k n a m (omega arith) i (ap (λ (b : Bool). b || leb 2 n) t) (ap (λ (b : Bool). not b || room n) t ∙ o))
-        (ap (λ (b : Bool). cond b (n + 1) (n - 1)) t)
+      (none-due k n a m (omega arith) i (ap (λ (b : Bool). b || leb 2 n) t) (ap (λ (b : Bool). not b || room n) t ∙ o))
+      (ap (λ (b : Bool). cond b (n + 1) (n - 1)) t)
 
   past-inner : (k n a m : ℕ) (rest : List ℕ) → sh .leaves ≤ a → a < labels sh → m < 2 ^ sh .tracks → 2 ≤ n
-    → rest-refusal sh room k n (a ∷ m ∷ rest) ≡ rest-refusal sh room (k + 1) (n - 1) rest
+      → rest-refusal sh room k n (a ∷ m ∷ rest) ≡ rest-refusal sh room (k + 1) (n - 1) rest
   past-inner k n a m rest g h i o =
       let t = le-ltb a (sh .leaves) g in
       past k n (n - 1) a m rest
-        (none-due k n a m h i (ap (λ (b : Bool). b || leb 2 n) t ∙ le-leb 2 n o) (ap (λ (b : Bool). not b || room n) t))
-        (ap (λ (b : Bool). cond b (n + 1) (n - 1)) t)
+      (none-due k n a m h i (ap (λ (b : Bool). b || leb 2 n) t ∙ le-leb 2 n o) (ap (λ (b : Bool). not b || room n) t))
+      (ap (λ (b : Bool). cond b (n + 1) (n - 1)) t)
 
   -- t finds its places above n open parts
   abbrev pub Above : ℕ → Tree → Type 0
@@ -79,7 +79,7 @@ module _ (sh : Shape) (room : ℕ → Bool) where
 
   -- a tree's listing opens one part more
   pub past-tree : (t : Tree) → Shaped sh t → (k n : ℕ) (rest : List ℕ) → Above n t
-    → rest-refusal sh room k n (listing t ++ rest) ≡ rest-refusal sh room (k + size t) (n + 1) rest
+      → rest-refusal sh room k n (listing t ++ rest) ≡ rest-refusal sh room (k + size t) (n + 1) rest
   past-tree (leaf a m) h k n rest f =
       past-leaf k n a m rest (h .0) (h .1) (subst (λ (x : ℕ). room x ≡ true) (omega arith) (f 0 (omega arith)))
   past-tree (inner a m l r) h k n rest f =
@@ -112,9 +112,12 @@ module _ (sh : Shape) (room : ℕ → Bool) where
       joined : sh .leaves ≤ a → (us : List Tree) → Held us → 2 ≤ length us → Held (under a m us)
       joined g [] h two = absurd (omega arith)
       joined g (t ∷ []) h two = absurd (omega arith)
-      joined g (r ∷ l ∷ us) h two =
-          (((g, f .known), f .marked, h .2 .0, h .0),
-            above-join sh room (length us) a m l r (h .2 .1) (λ p q. subst (λ (x : ℕ). room x ≡ true) (omega arith) (h .1 p q)), h .2 .2)
+      joined g (r ∷ l ∷ us) h two = (
+        ((g, f .known), f .marked, h .2 .0, h .0),
+        above-join sh room (length us) a m l r (h .2 .1) (λ p q. subst (λ (x : ℕ). room x ≡ true) (omega arith) (h .1 p q)),
+        h .2 .2,
+      )
+
       go : (b : Bool) → ltb a (sh .leaves) ≡ b → Held (cond b (leaf a m ∷ ts) (under a m ts))
       go true e =
           ((ltb-true a (sh .leaves) e, f .marked), (λ p q. subst (λ (x : ℕ). room x ≡ true) (omega arith) (f .finds e)), held)
@@ -127,6 +130,7 @@ module _ (sh : Shape) (room : ℕ → Bool) where
       joined [] two = absurd (omega arith)
       joined (t ∷ []) two = absurd (omega arith)
       joined (r ∷ l ∷ us) two = ap (spelled us) (listing-then a m l r rest)
+
       go : (b : Bool) → ltb a (sh .leaves) ≡ b → spelled (cond b (leaf a m ∷ ts) (under a m ts)) rest ≡ spelled ts (a ∷ m ∷ rest)
       go true e = refl
       go false e = joined ts (f .joins e)
@@ -153,7 +157,7 @@ module _ (sh : Shape) (room : ℕ → Bool) where
       let f = fine sh room k (length ts) a m (d .0) in
       let n = grown-length sh room (length ts) a m ts f refl in
       subst Whole (spelled-grown a m ts bs f)
-        (read-held bs (grown (sh .leaves) a m ts) (k + 1) (held-grown a m ts held f) (ap (λ (x : ℕ). rest-refusal sh room (k + 1) x bs) n ∙ d .1))
+      (read-held bs (grown (sh .leaves) a m ts) (k + 1) (held-grown a m ts held f) (ap (λ (x : ℕ). rest-refusal sh room (k + 1) x bs) n ∙ d .1))
 
   pub listed : (bs : List ℕ) → rest-refusal sh room 0 0 bs ≡ None → (t : Tree) × Shaped sh t × Stacked room t × (bs ≡ listing t)
   unfolding Whole

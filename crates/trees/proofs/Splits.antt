@@ -8,14 +8,17 @@ use lib.ListN.{length, getD, take, drop}
 use Rattle.std.proofs.shelf.Lists.{length-append, getD-at, getD-append-add, take-at, drop-at}
 use Rattle.std.specs.declared.option.Option.{Option}
 use Rattle.std.specs.declared.option.Option.the-variants.{Some, None}
+use Rattle.std.specs.Results.{Cases}
+use Rattle.std.specs.declared.result.Result.{Result}
 use Rattle.std.specs.declared.result.Result.the-variants.{Ok, Err}
 use Rattle.trees.specs.declared.shape.Shape.{Shape}
 use Rattle.trees.specs.declared.refusal.Refusal.{Refusal}
 use Rattle.trees.specs.Trees.{Tree, leaf, inner, Shaped, listing, size, label, marks}
 use Rattle.trees.specs.Reading.{first-refusal, outcome, Reads, Answers}
 use denote.Ref.{RefT}
+use Rattle.trees.specs.declared.parts.Root.{Root}
 use Rattle.trees.specs.declared.parts.Root.the-variants.{Leaf, Inner}
-use Rattle.trees.specs.Parts.{capped, right-size, Heads}
+use Rattle.trees.specs.Parts.{capped, right-size, Heads, Shorter}
 
 none-due : (o : Option Refusal) (u : Unit {0}) → Ok u ≡ outcome o → o ≡ None
 none-due None u e = refl
@@ -64,7 +67,7 @@ module _ (bs : List ℕ) (t : Tree) (e : bs ≡ listing t) where
   before-root = ap (take (length bs - 2)) ends ∙ take-at (body t) (label t ∷ marks t ∷ []) (length bs - 2) body-length
 
 pub leaf-heads : (sh : Shape) (bs : List ℕ) (t : Tree) → Shaped sh t → bs ≡ listing t → getD bs (length bs - 2) 0 < sh .leaves
-  → Heads t (Leaf (getD bs (length bs - 2) 0) (getD bs (length bs - 1) 0))
+    → Heads t (Leaf (getD bs (length bs - 2) 0) (getD bs (length bs - 1) 0))
 leaf-heads sh bs (leaf a m) h e low = (root-label bs (leaf a m) e, root-marks bs (leaf a m) e)
 leaf-heads sh bs (inner a m l r) h e low = absurd (omega (arith, h .0 .0, root-label bs (inner a m l r) e))
 
@@ -84,11 +87,26 @@ module _ (sh : Shape) (bs : List ℕ) (short : length bs ≤ 8192) (high : sh .l
   cut-fits (inner a m l r) h e is = omega (arith, parts-length a m l r e, exact a m l r e is)
 
   pub inner-heads : (t : Tree) → Shaped sh t → bs ≡ listing t → n ≡ right-size (t ∷ []) → (k : ℕ) → k ≡ length (take (length bs - 2) bs) - 2 * n
-    → (x y : RefT (List ℕ)) → x .now ≡ take k (take (length bs - 2) bs) → y .now ≡ drop k (take (length bs - 2) bs)
-    → Heads t (Inner (getD bs (length bs - 2) 0) (getD bs (length bs - 1) 0) x y)
+      → (x y : RefT (List ℕ)) → x .now ≡ take k (take (length bs - 2) bs) → y .now ≡ drop k (take (length bs - 2) bs)
+      → Heads t (Inner (getD bs (length bs - 2) 0) (getD bs (length bs - 1) 0) x y)
   inner-heads (leaf a m) h e is k at x y p q = absurd (not-leaf a m h e)
   inner-heads (inner a m l r) h e is k at x y p q =
-      let c : length (listing l) ≡ k = omega (arith, parts-length a m l r e, exact a m l r e is, length-listing l) in
-      (root-label bs (inner a m l r) e, root-marks bs (inner a m l r) e,
+      let c : length (listing l) ≡ k = omega (arith, parts-length a m l r e, exact a m l r e is, length-listing l) in (
+        root-label bs (inner a m l r) e,
+        root-marks bs (inner a m l r) e,
         p ∙ (ap (take k) (before-root bs (inner a m l r) e) ∙ take-at (listing l) (listing r) k c),
-        q ∙ (ap (drop k) (before-root bs (inner a m l r) e) ∙ drop-at (listing l) (listing r) k c))
+        q ∙ (ap (drop k) (before-root bs (inner a m l r) e) ∙ drop-at (listing l) (listing r) k c),
+      )
+
+heads-shorter : (bs : List ℕ) (t : Tree) → bs ≡ listing t → (root : Root) → Heads t root → Shorter root (length bs)
+heads-shorter bs (leaf a m) e (Leaf b k) h = tt
+heads-shorter bs (leaf a m) e (Inner b k x y) h = elim h [ ]
+heads-shorter bs (inner a m l r) e (Leaf b k) h = tt
+heads-shorter bs (inner a m l r) e (Inner b k x y) h =
+    let n : length bs ≡ length (listing l) + (length (listing r) + 2) = ap length e ∙ simp length-append (omega arith) in
+    omega (arith, n, ap length (h .2), ap length (h .3))
+
+pub parts-shorter : (sh : Shape) (room : ℕ → Bool) (bs : List ℕ) (Q : Refusal → Type 0) (r : Result Root Refusal)
+    → Cases r (λ root. (t : Tree) × Reads sh room bs t × Heads t root) Q → Cases r (λ root. Shorter root (length bs)) (λ _. Unit {0})
+parts-shorter sh room bs Q (Ok root) (t, reads, h) = heads-shorter bs t (reads .listed) root h
+parts-shorter sh room bs Q (Err e) h = tt

@@ -23,10 +23,11 @@ module _ (f : Tree → ℕ) where
       (simp length-set (h .0), getD-set-other xs i (length ts) v 0 ne ∙ h .1, values-above xs ts i v (omega arith) (h .2))
 
   pub values-push : (xs : List ℕ) (t : Tree) (ts : List Tree) (i v : ℕ) → length ts ≡ i → i < length xs → v ≡ f t → ValuesOf f xs ts → ValuesOf f (set xs i v) (t ∷ ts)
-  values-push xs t ts i v e lt is h =
-      (simp length-set (omega arith),
-        ap (λ (k : ℕ). getD (set xs i v) k 0) e ∙ (getD-set-same xs i v 0 lt ∙ is),
-        values-above xs ts i v (omega arith) h)
+  values-push xs t ts i v e lt is h = (
+    simp length-set (omega arith),
+    ap (λ (k : ℕ). getD (set xs i v) k 0) e ∙ (getD-set-same xs i v 0 lt ∙ is),
+    values-above xs ts i v (omega arith) h,
+  )
 
   -- the newest two of h open parts
   module _ (xs : List ℕ) (l r : Tree) (ts : List Tree) (h : ℕ) (e : length ts + 2 ≡ h) (held : ValuesOf f xs (r ∷ l ∷ ts)) where

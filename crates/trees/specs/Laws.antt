@@ -42,19 +42,19 @@ small = record { leaves = 2; inners = 1; tracks = 2 }
 abbrev pub ReadingExamples : Type 0
 ReadingExamples =
     map (first-refusal small (λ n. ltb n 4))
-      ( []
-      ∷ (2 ∷ 0 ∷ [])
-      ∷ (0 ∷ 0 ∷ 0 ∷ 0 ∷ [])
-      ∷ (3 ∷ 0 ∷ [])
-      ∷ (0 ∷ 4 ∷ [])
-      ∷ (0 ∷ [])
-      ∷ (0 ∷ 1 ∷ 1 ∷ 2 ∷ 2 ∷ 0 ∷ [])
-      ∷ [] )
-    ≡ ( Some (refusal NotOneTree 0)
-      ∷ Some (refusal MissingParts 0)
-      ∷ Some (refusal NotOneTree 2)
-      ∷ Some (refusal UnknownLabel 0)
-      ∷ Some (refusal UnknownMarks 0)
-      ∷ Some (refusal BadLength 0)
-      ∷ None
-      ∷ [] )
+    ([]
+    ∷ (2 ∷ 0 ∷ [])
+    ∷ (0 ∷ 0 ∷ 0 ∷ 0 ∷ [])
+    ∷ (3 ∷ 0 ∷ [])
+    ∷ (0 ∷ 4 ∷ [])
+    ∷ (0 ∷ [])
+    ∷ (0 ∷ 1 ∷ 1 ∷ 2 ∷ 2 ∷ 0 ∷ [])
+    ∷ [])
+    ≡ (Some (refusal NotOneTree 0)
+    ∷ Some (refusal MissingParts 0)
+    ∷ Some (refusal NotOneTree 2)
+    ∷ Some (refusal UnknownLabel 0)
+    ∷ Some (refusal UnknownMarks 0)
+    ∷ Some (refusal BadLength 0)
+    ∷ None
+    ∷ [])

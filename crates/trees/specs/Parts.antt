@@ -5,10 +5,11 @@
 --   capped            a number of nodes as 16 bits hold it
 --   Sized xs n ts     the stack has the open parts' sizes, and n is the size of the newest one's right part
 --   Heads t r         r is the root of t, with the listings of its parts
+--   Shorter r n       the listings of the parts are shorter than n bytes by the root's own two
 use mathlib.Core.Path.{_≡_}
 use mathlib.Core.Bool.{Bool}
 use mathlib.Core.List.{List, [], _∷_}
-use Prim.Native.Nat.{ℕ, _<_, min}
+use Prim.Native.Nat.{ℕ, _+_, _<_, min}
 use lib.Dec.{ltb}
 use lib.ListN.{length, getD}
 use Rattle.trees.specs.declared.parts.Root.{Root}
@@ -38,3 +39,7 @@ Heads (leaf a m) (Leaf b k) = (b ≡ a) × (k ≡ m)
 Heads (leaf a m) (Inner b k x y) = ⊥
 Heads (inner a m l r) (Leaf b k) = ⊥
 Heads (inner a m l r) (Inner b k x y) = (b ≡ a) × (k ≡ m) × (x .now ≡ listing l) × (y .now ≡ listing r)
+
+abbrev pub Shorter : Root → ℕ → Type 0
+Shorter (Leaf b k) n = Unit {0}
+Shorter (Inner b k x y) n = length (x .now) + length (y .now) + 2 ≡ n

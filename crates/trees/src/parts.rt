@@ -8,7 +8,7 @@ ghost use Rattle.std.specs.Results.{Cases};
 ghost use Rattle.std.specs.declared.option.Option.the-variants.{Some};
 ghost use Rattle.trees.specs.Trees.{Tree};
 ghost use Rattle.trees.specs.Reading.{first-refusal, Reads};
-ghost use Rattle.trees.specs.Parts.{places, Sized, Heads};
+ghost use Rattle.trees.specs.Parts.{places, Sized, Heads, Shorter};
 use crate::fold::Fold;
 use crate::reader::read;
 use crate::refusal::Refusal;
@@ -18,8 +18,16 @@ use lent::SizeZero;
 
 #[derive(Clone, Copy)]
 pub enum Root<'a> {
-    Leaf { label: u8, marks: u8 },
-    Inner { label: u8, marks: u8, left: &'a [u8], right: &'a [u8] },
+    Leaf {
+        label: u8,
+        marks: u8,
+    },
+    Inner {
+        label: u8,
+        marks: u8,
+        left: &'a [u8],
+        right: &'a [u8],
+    },
 }
 
 // The number of nodes of each open part, and of the right part of the newest one.
@@ -57,22 +65,34 @@ impl Fold for Sizes<'_> as SizesFold {
 fn split_in<'a>(shape: Shape, listing: &'a [u8], stack: &mut [u16]) -> Result<Root<'a>, Refusal>
     ensures { λ r. ⌜ Cases r (λ root. (t : Tree) × Reads shape (places (now (stack .entry))) (now (listing .entry)) t × Heads t root) (λ e. first-refusal shape (places (now (stack .entry))) (now (listing .entry)) ≡ Some e) ⌝ }
 {
-    let mut sizes = Sizes { stack: &mut *stack, right: 0 };
+    let mut sizes = Sizes {
+        stack: &mut *stack,
+        right: 0,
+    };
     read(shape, listing, &mut sizes)?;
     let [parts @ .., label, marks] = listing else {
         unreachable()
     };
     if *label < shape.leaves {
-        return Ok(Root::Leaf { label: *label, marks: *marks });
+        return Ok(Root::Leaf {
+            label: *label,
+            marks: *marks,
+        });
     }
     let cut = parts.len() - 2 * usize::from(sizes.right);
     let (left, right) = parts.split_at(cut);
-    Ok(Root::Inner { label: *label, marks: *marks, left, right })
+    Ok(Root::Inner {
+        label: *label,
+        marks: *marks,
+        left,
+        right,
+    })
 }
 
 // The root of the tree whose listing this is, with the listings of its parts. The stack has a place for each open part.
 pub fn split<'a>(shape: Shape, listing: &'a [u8], stack: &mut [u16]) -> Result<Root<'a>, Refusal>
     ensures answer { λ r. ⌜ Cases r (λ root. (t : Tree) × Reads shape (places (now (stack .entry))) (now (listing .entry)) t × Heads t root) (λ e. first-refusal shape (places (now (stack .entry))) (now (listing .entry)) ≡ Some e) ⌝ }
+    ensures shorter { λ r. ⌜ Cases r (λ root. Shorter root (length (now (listing .entry)))) (λ _. Unit {0}) ⌝ }
     ensures cleared { λ _. ⌜ now (stack .exit) ≡ replicate (length (now (stack .entry))) 0 ⌝ }
 {
     let guard = Cleared { cells: &mut *stack };

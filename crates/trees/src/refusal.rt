@@ -1,9 +1,10 @@
 // Why a call is refused: the reason, the place, and the layer where the refusal arose.
 ghost use mathlib.Core.Path.{_≡_};
+ghost use lib.Dec.{eqb};
 ghost use Rattle.trees.specs.Refusals.{number};
 use std::fmt;
 
-#[derive(Clone, Copy, PartialEq, Eq, Debug)]
+#[derive(Clone, Copy, Debug)]
 pub enum Reason {
     OutsideLimits,
     StoreTooShort,
@@ -67,6 +68,17 @@ impl Reason {
     }
 }
 
+// Reasons are told apart by their numbers.
+pub impl PartialEq<Reason> for Reason as ReasonPartialEq {
+    ghost equals = { λ x y r. r ≡ eqb (number x) (number y) };
+
+    fn eq(&self, other: &Reason) -> bool {
+        self.number() == other.number()
+    }
+}
+
+pub impl Eq for Reason as ReasonEq {}
+
 pub impl fmt::Display for Reason as ReasonDisplay {
     fn fmt<W: fmt::Write>(&self, f: &mut fmt::Formatter<W>) -> fmt::Result {
         match self {
@@ -82,10 +94,14 @@ pub impl fmt::Display for Reason as ReasonDisplay {
             Reason::BufferTooShort => f.write_str("the answer buffer is too short"),
             Reason::ShapesDiffer => f.write_str("the shapes differ"),
             Reason::CountTooLarge => f.write_str("the count is too large"),
-            Reason::BadLength => f.write_str("the listing is longer than 8192 bytes or has an odd number of them"),
+            Reason::BadLength => f.write_str(
+                "the listing is longer than 8192 bytes or has an odd number of them",
+            ),
             Reason::UnknownLabel => f.write_str("the node has a label that the shape lacks"),
             Reason::UnknownMarks => f.write_str("the node has a mark that the shape lacks"),
-            Reason::MissingParts => f.write_str("the inner node has fewer than two open parts under it"),
+            Reason::MissingParts => f.write_str(
+                "the inner node has fewer than two open parts under it",
+            ),
             Reason::StackFull => f.write_str("the stack has no free place for the leaf"),
             Reason::NotOneTree => f.write_str("the listing does not end in exactly one tree"),
         }
@@ -105,7 +121,14 @@ pub impl fmt::Display for Origin as OriginDisplay {
 pub impl fmt::Display for Refusal as RefusalDisplay {
     fn fmt<W: fmt::Write>(&self, f: &mut fmt::Formatter<W>) -> fmt::Result {
         let number = self.reason.number();
-        let Refusal { reason, place, origin } = *self;
-        write!(f, "refusal {number} at place {place}, from {origin}: {reason}")
+        let Refusal {
+            reason,
+            place,
+            origin,
+        } = *self;
+        write!(
+            f,
+            "refusal {number} at place {place}, from {origin}: {reason}"
+        )
     }
 }

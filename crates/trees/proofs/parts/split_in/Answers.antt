@@ -29,6 +29,9 @@ pub returns : need.returns
 returns c =
     let h = c .in-Continue-read .ensures tt in
     let w = read-tree _ _ _ _ (h .answers) (h .due) in
-    let held = h .made (w .0) (w .1) (tt, refl) in
-    (w .0, w .1, inner-heads (c .args .shape) _ (w .1 .short) (c .if-label-shape .left) (c .from .result) (w .0) (w .1 .shaped) (w .1 .listed) (c .from .ensures ∙ held .1)
-      _ refl _ _ (c .split-at .ensures .front) (c .split-at .ensures .back))
+    let held = h .made (w .0) (w .1) (tt, refl) in (
+      w .0,
+      w .1,
+      inner-heads (c .args .shape) _ (w .1 .short) (c .if-label-shape .left) (c .from .result) (w .0) (w .1 .shaped) (w .1 .listed) (c .from .ensures ∙ held .1)
+          _ refl _ _ (c .split-at .ensures .front) (c .split-at .ensures .back),
+    )

@@ -10,6 +10,6 @@ returns g c =
       due = due;
       answers = answers _ _ _;
       made = tree-held (c .args .shape) (g .F·Fold .room (now (c .args .fold))) (now (c .args .listing)) (g .F·Fold .holds (now (c .args .fold)) _)
-        (g .F·Fold .holds (c .read-nodes .last .fold)) (c .read-nodes .result) due (c .read-nodes .ensures .made);
-      same = c .read-nodes .ensures .same
+          (g .F·Fold .holds (c .read-nodes .last .fold)) (c .read-nodes .result) due (c .read-nodes .ensures .made);
+      same = c .read-nodes .ensures .same;
     }
