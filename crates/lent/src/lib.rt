@@ -14,7 +14,7 @@ pub impl Zero for u8 as ByteZero {
     ghost null = { 0 };
 
     fn zero() -> u8 {
-        0
+        0u8
     }
 }
 
@@ -22,7 +22,7 @@ pub impl Zero for u16 as SizeZero {
     ghost null = { 0 };
 
     fn zero() -> u16 {
-        0
+        0u16
     }
 }
 
@@ -30,7 +30,7 @@ pub impl Zero for u64 as CodeZero {
     ghost null = { 0 };
 
     fn zero() -> u64 {
-        0
+        0u64
     }
 }
 

@@ -8,8 +8,6 @@ use lib.ListN.{length, getD, take, drop}
 use Rattle.std.proofs.shelf.Lists.{length-append, getD-at, getD-append-add, take-at, drop-at}
 use Rattle.std.specs.declared.option.Option.{Option}
 use Rattle.std.specs.declared.option.Option.the-variants.{Some, None}
-use Rattle.std.specs.Results.{Cases}
-use Rattle.std.specs.declared.result.Result.{Result}
 use Rattle.std.specs.declared.result.Result.the-variants.{Ok, Err}
 use Rattle.trees.specs.declared.shape.Shape.{Shape}
 use Rattle.trees.specs.declared.refusal.Refusal.{Refusal}
@@ -82,15 +80,13 @@ module _ (sh : Shape) (bs : List ℕ) (short : length bs ≤ 8192) (high : sh .l
   exact : (a m : ℕ) (l r : Tree) → bs ≡ listing (inner a m l r) → n ≡ capped (size r) → n ≡ size r
   exact a m l r e is = omega (arith, is, ap length e, length-listing (inner a m l r))
 
-  pub cut-fits : (t : Tree) → Shaped sh t → bs ≡ listing t → n ≡ right-size (t ∷ []) → 2 * n ≤ length (take (length bs - 2) bs)
-  cut-fits (leaf a m) h e is = absurd (not-leaf a m h e)
-  cut-fits (inner a m l r) h e is = omega (arith, parts-length a m l r e, exact a m l r e is)
-
-  pub inner-heads : (t : Tree) → Shaped sh t → bs ≡ listing t → n ≡ right-size (t ∷ []) → (k : ℕ) → k ≡ length (take (length bs - 2) bs) - 2 * n
-      → (x y : RefT (List ℕ)) → x .now ≡ take k (take (length bs - 2) bs) → y .now ≡ drop k (take (length bs - 2) bs)
+  pub inner-heads : (t : Tree) → Shaped sh t → bs ≡ listing t → n ≡ right-size (t ∷ []) → (x y : RefT (List ℕ))
+      → x .now ≡ take (length (take (length bs - 2) bs) - 2 * n) (take (length bs - 2) bs)
+      → y .now ≡ drop (length (take (length bs - 2) bs) - 2 * n) (take (length bs - 2) bs)
       → Heads t (Inner (getD bs (length bs - 2) 0) (getD bs (length bs - 1) 0) x y)
-  inner-heads (leaf a m) h e is k at x y p q = absurd (not-leaf a m h e)
-  inner-heads (inner a m l r) h e is k at x y p q =
+  inner-heads (leaf a m) h e is x y p q = absurd (not-leaf a m h e)
+  inner-heads (inner a m l r) h e is x y p q =
+      let k = length (take (length bs - 2) bs) - 2 * n in
       let c : length (listing l) ≡ k = omega (arith, parts-length a m l r e, exact a m l r e is, length-listing l) in (
         root-label bs (inner a m l r) e,
         root-marks bs (inner a m l r) e,
@@ -98,15 +94,10 @@ module _ (sh : Shape) (bs : List ℕ) (short : length bs ≤ 8192) (high : sh .l
         q ∙ (ap (drop k) (before-root bs (inner a m l r) e) ∙ drop-at (listing l) (listing r) k c),
       )
 
-heads-shorter : (bs : List ℕ) (t : Tree) → bs ≡ listing t → (root : Root) → Heads t root → Shorter root (length bs)
+pub heads-shorter : (bs : List ℕ) (t : Tree) → bs ≡ listing t → (root : Root) → Heads t root → Shorter root (length bs)
 heads-shorter bs (leaf a m) e (Leaf b k) h = tt
 heads-shorter bs (leaf a m) e (Inner b k x y) h = elim h [ ]
 heads-shorter bs (inner a m l r) e (Leaf b k) h = tt
 heads-shorter bs (inner a m l r) e (Inner b k x y) h =
     let n : length bs ≡ length (listing l) + (length (listing r) + 2) = ap length e ∙ simp length-append (omega arith) in
     omega (arith, n, ap length (h .2), ap length (h .3))
-
-pub parts-shorter : (sh : Shape) (room : ℕ → Bool) (bs : List ℕ) (Q : Refusal → Type 0) (r : Result Root Refusal)
-    → Cases r (λ root. (t : Tree) × Reads sh room bs t × Heads t root) Q → Cases r (λ root. Shorter root (length bs)) (λ _. Unit {0})
-parts-shorter sh room bs Q (Ok root) (t, reads, h) = heads-shorter bs t (reads .listed) root h
-parts-shorter sh room bs Q (Err e) h = tt

@@ -1,9 +1,7 @@
 // A tree's root and the listings of its two parts.
 ghost use mathlib.Core.Path.{_≡_};
-ghost use mathlib.Core.Bool.{Bool};
-ghost use Prim.Native.Nat.{ℕ};
-ghost use lib.Dec.{ltb};
-ghost use lib.ListN.{length, replicate};
+ghost use Prim.Native.Nat.{ℕ, _-_, _*_};
+ghost use lib.ListN.{length, take, drop, replicate};
 ghost use Rattle.std.specs.Results.{Cases};
 ghost use Rattle.std.specs.declared.option.Option.the-variants.{Some};
 ghost use Rattle.trees.specs.Trees.{Tree};
@@ -62,8 +60,18 @@ impl Fold for Sizes<'_> as SizesFold {
     }
 }
 
+// Two listings side by side, the second of so many nodes.
+fn cut(bytes: &[u8], nodes: u16) -> (&[u8], &[u8])
+    ensures left { λ r. ⌜ now (r .0) ≡ take (length (now (bytes .entry)) - 2 * nodes) (now (bytes .entry)) ⌝ }
+    ensures right { λ r. ⌜ now (r .1) ≡ drop (length (now (bytes .entry)) - 2 * nodes) (now (bytes .entry)) ⌝ }
+{
+    let (left, right) = bytes.split_at(bytes.len().saturating_sub(2 * usize::from(nodes)));
+    (left, right)
+}
+
 fn split_in<'a>(shape: Shape, listing: &'a [u8], stack: &mut [u16]) -> Result<Root<'a>, Refusal>
-    ensures { λ r. ⌜ Cases r (λ root. (t : Tree) × Reads shape (places (now (stack .entry))) (now (listing .entry)) t × Heads t root) (λ e. first-refusal shape (places (now (stack .entry))) (now (listing .entry)) ≡ Some e) ⌝ }
+    ensures answer { λ r. ⌜ Cases r (λ root. (t : Tree) × Reads shape (places (now (stack .entry))) (now (listing .entry)) t × Heads t root) (λ e. first-refusal shape (places (now (stack .entry))) (now (listing .entry)) ≡ Some e) ⌝ }
+    ensures shorter { λ r. ⌜ Cases r (λ root. Shorter root (length (now (listing .entry)))) (λ _. Unit {0}) ⌝ }
 {
     let mut sizes = Sizes {
         stack: &mut *stack,
@@ -79,8 +87,7 @@ fn split_in<'a>(shape: Shape, listing: &'a [u8], stack: &mut [u16]) -> Result<Ro
             marks: *marks,
         });
     }
-    let cut = parts.len() - 2 * usize::from(sizes.right);
-    let (left, right) = parts.split_at(cut);
+    let (left, right) = cut(parts, sizes.right);
     Ok(Root::Inner {
         label: *label,
         marks: *marks,

@@ -4,14 +4,19 @@ mod tests {
     use std::alloc::AllocError;
     use std::alloc::Global;
     use std::test::*;
-    use trees::split;
     use trees::Root;
     use trees::Shape;
     use trees::ShapeDebug;
     use trees::ShapePartialEq;
+    use trees::split;
 
     // The number and place of the refusal that a listing is due, or zeros.
-    fn verdict(heap: Global, shape: Shape, listing: &[u8], places: usize) -> Result<(u8, usize), AllocError> {
+    fn verdict(
+        heap: Global,
+        shape: Shape,
+        listing: &[u8],
+        places: usize,
+    ) -> Result<(u8, usize), AllocError> {
         let mut stack = vec![in heap; 7u16; places]?;
         match split(shape, listing, stack.as_mut_slice()) {
             Ok(_) => Ok((0, 0)),
@@ -43,8 +48,17 @@ mod tests {
         Ok(bytes)
     }
 
-    const SMALL: Shape = Shape { leaves: 2, inners: 1, tracks: 2 };
-    const WIDE: Shape = Shape { leaves: 2, inners: 2, tracks: 6 };
+    const SMALL: Shape = Shape {
+        leaves: 2,
+        inners: 1,
+        tracks: 2,
+    };
+
+    const WIDE: Shape = Shape {
+        leaves: 2,
+        inners: 2,
+        tracks: 6,
+    };
 
     #[test]
     fn labels_and_marks_at_their_limits(rt: LibcRuntime) -> Result<(), Fail> {
@@ -79,14 +93,24 @@ mod tests {
         let bytes = right_comb(heap, 2048)?;
         check_eq(verdict(heap, SMALL, bytes.as_slice(), 2048)?, (0, 0))?;
         check_eq(verdict(heap, SMALL, bytes.as_slice(), 2047)?, (17, 2047))?;
-        check_eq(verdict(heap, SMALL, left_comb(heap, 3)?.as_slice(), 1)?, (17, 1))
+        check_eq(
+            verdict(heap, SMALL, left_comb(heap, 3)?.as_slice(), 1)?,
+            (17, 1),
+        )
     }
 
     #[test]
     fn parts_of_a_root() -> Result<(), Fail> {
         let mut stack = [0; 3];
         match split(SMALL, &[0, 1, 1, 0, 1, 2, 2, 1, 2, 3], &mut stack) {
-            Ok(Root::Inner { label, marks, left, right }) => {
+            Ok(
+                Root::Inner {
+                    label,
+                    marks,
+                    left,
+                    right,
+                },
+            ) => {
                 check_eq((label, marks), (2, 3))?;
                 check_eq(left, &[0, 1])?;
                 check_eq(right, &[1, 0, 1, 2, 2, 1])
@@ -99,7 +123,15 @@ mod tests {
     fn shapes_at_their_limits() -> Result<(), Fail> {
         check(Shape::new(8, 4, 6).is_some())?;
         check(Shape::new(1, 1, 1).is_some())?;
-        for (leaves, inners, tracks) in [(0, 1, 1), (9, 1, 1), (1, 0, 1), (1, 5, 1), (1, 1, 0), (1, 1, 7), (257, 1, 1)] {
+        for (leaves, inners, tracks) in [
+            (0, 1, 1),
+            (9, 1, 1),
+            (1, 0, 1),
+            (1, 5, 1),
+            (1, 1, 0),
+            (1, 1, 7),
+            (257, 1, 1),
+        ] {
             check_eq(Shape::new(leaves, inners, tracks), None)?;
         }
         Ok(())

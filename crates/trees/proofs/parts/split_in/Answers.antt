@@ -1,8 +1,7 @@
-use mathlib.Core.Path.{refl, sym, _∙_}
+use mathlib.Core.Path.{refl}
 use native.Mathlib.Omega.{arith}
 use borrow.Author.Tests.{ltb-true}
-use Rattle.trees.specs.Parts.{places}
-use Rattle.trees.proofs.Splits.{read-tree, long, leaf-heads, cut-fits, inner-heads}
+use Rattle.trees.proofs.Splits.{read-tree, long, leaf-heads, inner-heads, heads-shorter}
 use Rattle.trees.proofs.parts.split_in.Needs as need
 
 pub unreachable-requires : need.unreachable-requires
@@ -16,22 +15,13 @@ pub returns-then-label-shape : need.returns-then-label-shape
 returns-then-label-shape c =
     let h = c .in-Continue-read .ensures tt in
     let w = read-tree _ _ _ _ (h .answers) (h .due) in
-    (w .0, w .1, leaf-heads (c .args .shape) _ (w .0) (w .1 .shaped) (w .1 .listed) (c .if-label-shape .taken))
-
-pub sub-cut : need.sub-cut
-sub-cut c =
-    let h = c .in-Continue-read .ensures tt in
-    let w = read-tree _ _ _ _ (h .answers) (h .due) in
-    let held = h .made (w .0) (w .1) (tt, refl) in
-    cut-fits (c .args .shape) _ (w .1 .short) (c .if-label-shape .left) (c .from .result) (w .0) (w .1 .shaped) (w .1 .listed) (c .from .ensures ∙ held .1)
+    record { answer = (w .0, w .1, leaf-heads (c .args .shape) _ (w .0) (w .1 .shaped) (w .1 .listed) (c .if-label-shape .taken)); shorter = tt }
 
 pub returns : need.returns
 returns c =
     let h = c .in-Continue-read .ensures tt in
     let w = read-tree _ _ _ _ (h .answers) (h .due) in
-    let held = h .made (w .0) (w .1) (tt, refl) in (
-      w .0,
-      w .1,
-      inner-heads (c .args .shape) _ (w .1 .short) (c .if-label-shape .left) (c .from .result) (w .0) (w .1 .shaped) (w .1 .listed) (c .from .ensures ∙ held .1)
-          _ refl _ _ (c .split-at .ensures .front) (c .split-at .ensures .back),
-    )
+    let held = h .made (w .0) (w .1) (tt, refl) in
+    let heads = inner-heads (c .args .shape) _ (w .1 .short) (c .if-label-shape .left) _ (w .0) (w .1 .shaped) (w .1 .listed) (held .1)
+    _ _ (c .cut .ensures .left) (c .cut .ensures .right) in
+    record { answer = (w .0, w .1, heads); shorter = heads-shorter _ (w .0) (w .1 .listed) _ heads }
