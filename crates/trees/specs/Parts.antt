@@ -1,7 +1,7 @@
 -- A tree's root, the listings of its two parts, and a stack with a value for each open part.
 -- Words:
 --   places xs         room for as many parts as xs has places
---   ValuesOf f xs ts  the stack xs has f of each open part of ts, the newest first, the oldest at place 0
+--   ValuesOf P xs ts  the stack xs has at the place of each open part of ts, the oldest at place 0, a value of which P holds
 --   capped            a number of nodes as 16 bits hold it
 --   Sized xs n ts     the stack has the open parts' sizes, and n is the size of the newest one's right part
 --   Heads t r         r is the root of t, with the listings of its parts
@@ -16,12 +16,12 @@ use Rattle.trees.specs.declared.parts.Root.{Root}
 use Rattle.trees.specs.declared.parts.Root.the-variants.{Leaf, Inner}
 use Rattle.trees.specs.Trees.{Tree, leaf, inner, listing, size}
 
-abbrev pub places : List ℕ → ℕ → Bool
+abbrev pub places : {V : Type 0} → List V → ℕ → Bool
 places xs n = ltb n (length xs)
 
-abbrev pub ValuesOf : (Tree → ℕ) → List ℕ → List Tree → Type 0
-ValuesOf f xs [] = Unit {0}
-ValuesOf f xs (t ∷ ts) = (length ts < length xs) × (getD xs (length ts) 0 ≡ f t) × ValuesOf f xs ts
+abbrev pub ValuesOf : {V : Type 0} → (V → Tree → Type 0) → List V → List Tree → Type 0
+ValuesOf P xs [] = Unit {0}
+ValuesOf {V} P xs (t ∷ ts) = (length ts < length xs) × ((d : V) → P (getD xs (length ts) d) t) × ValuesOf P xs ts
 
 abbrev pub capped : ℕ → ℕ
 capped n = min n 65535
@@ -32,7 +32,7 @@ right-size (leaf a m ∷ ts) = 0
 right-size (inner a m l r ∷ ts) = capped (size r)
 
 abbrev pub Sized : List ℕ → ℕ → List Tree → Type 0
-Sized xs n ts = ValuesOf (λ t. capped (size t)) xs ts × (n ≡ right-size ts)
+Sized xs n ts = ValuesOf (λ v t. v ≡ capped (size t)) xs ts × (n ≡ right-size ts)
 
 abbrev pub Heads : Tree → Root → Type 0
 Heads (leaf a m) (Leaf b k) = (b ≡ a) × (k ≡ m)

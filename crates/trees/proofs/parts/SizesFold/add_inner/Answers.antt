@@ -9,9 +9,9 @@ pub returns : need.returns
 returns c = record {
   same = places-set _ _ _;
   made = λ l r ts e h.
-      let a = value-left (λ t. capped (size t)) _ l r ts _ e (h .0) in
-      let b = value-right (λ t. capped (size t)) _ l r ts _ e (h .0) in
+      let a = value-left (λ v t. v ≡ capped (size t)) _ l r ts _ e (h .0) 0 in
+      let b = value-right (λ v t. v ≡ capped (size t)) _ l r ts _ e (h .0) 0 in
       let s : c .saturating-add-2 .result ≡ capped (size (inner (c .args .-label) (c .args .-marks) l r))
       = omega (arith, a, b, c .saturating-add-2 .ensures, c .saturating-add .ensures) in
-      (values-join (λ t. capped (size t)) _ l r ts _ e (h .0) (inner (c .args .-label) (c .args .-marks) l r) _ s, b);
+      (values-join (λ v t. v ≡ capped (size t)) _ l r ts _ e (h .0) (inner (c .args .-label) (c .args .-marks) l r) _ s, b);
 }
