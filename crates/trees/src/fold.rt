@@ -11,17 +11,17 @@ pub trait Fold {
     // whether there is a free place for one more part, by the number of open parts
     ghost room: { Self → ℕ → Bool };
 
-    // what it is to hold these open parts, the newest first
-    ghost holds: { Self → List Tree → Type 0 };
+    // what it is for the second, which began as the first, to hold these open parts, the newest first
+    ghost holds: { Self → Self → List Tree → Type 0 };
 
     // Puts a leaf on top of `height` open parts, or answers false where there is no free place.
     fn add_leaf(&mut self, height: usize, label: u8, marks: u8) -> bool
         ensures free { λ r. ⌜ r ≡ room (now (self .entry)) height ⌝ }
         ensures same { λ _. ⌜ room (now (self .exit)) ≡ room (now (self .entry)) ⌝ }
-        ensures made { λ r. ⌜ ((ts : List Tree) → length ts ≡ height → r ≡ true → holds (now (self .entry)) ts → holds (now (self .exit)) (leaf label marks ∷ ts)) ⌝ };
+        ensures made { λ r. ⌜ ((s : Self) (ts : List Tree) → length ts ≡ height → r ≡ true → holds s (now (self .entry)) ts → holds s (now (self .exit)) (leaf label marks ∷ ts)) ⌝ };
 
     // Puts an inner node in the place of the newest two of `height` open parts.
     fn add_inner(&mut self, height: usize, label: u8, marks: u8)
         ensures same { λ _. ⌜ room (now (self .exit)) ≡ room (now (self .entry)) ⌝ }
-        ensures made { λ _. ⌜ ((l r : Tree) (ts : List Tree) → length ts + 2 ≡ height → holds (now (self .entry)) (r ∷ l ∷ ts) → holds (now (self .exit)) (inner label marks l r ∷ ts)) ⌝ };
+        ensures made { λ _. ⌜ ((s : Self) (l r : Tree) (ts : List Tree) → length ts + 2 ≡ height → holds s (now (self .entry)) (r ∷ l ∷ ts) → holds s (now (self .exit)) (inner label marks l r ∷ ts)) ⌝ };
 }

@@ -38,7 +38,7 @@ struct Sizes<'a> {
 impl Fold for Sizes<'_> as SizesFold {
     ghost room = { λ s. places (s .stack .now) };
 
-    ghost holds = { λ s ts. Sized (s .stack .now) (s .right) ts };
+    ghost holds = { λ _ s ts. Sized (s .stack .now) (s .right) ts };
 
     fn add_leaf(&mut self, height: usize, _label: u8, _marks: u8) -> bool {
         if height >= self.stack.len() {

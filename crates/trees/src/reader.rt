@@ -40,7 +40,7 @@ fn read_node<F: Fold>(
     requires { ⌜ height < 2 ^ 63 ⌝ }
     ensures due { λ r. ⌜ Cases r (λ n. (node-refusal shape (F·Fold .room (now (fold .entry))) place height label marks ≡ None) × (n ≡ opened shape height label)) (λ e. node-refusal shape (F·Fold .room (now (fold .entry))) place height label marks ≡ Some e) ⌝ }
     ensures same { λ _. ⌜ F·Fold .room (now (fold .exit)) ≡ F·Fold .room (now (fold .entry)) ⌝ }
-    ensures made { λ r. ⌜ Cases r (λ _. (ts : List Tree) → length ts ≡ height → F·Fold .holds (now (fold .entry)) ts → F·Fold .holds (now (fold .exit)) (grown (shape .leaves) label marks ts)) (λ _. Unit {0}) ⌝ }
+    ensures made { λ r. ⌜ Cases r (λ _. (s : F) (ts : List Tree) → length ts ≡ height → F·Fold .holds s (now (fold .entry)) ts → F·Fold .holds s (now (fold .exit)) (grown (shape .leaves) label marks ts)) (λ _. Unit {0}) ⌝ }
 {
     if !shape.has_label(label) {
         return Err(refused(Reason::UnknownLabel, place));
@@ -64,7 +64,7 @@ fn read_node<F: Fold>(
 fn read_nodes<F: Fold>(shape: Shape, listing: &[u8], fold: &mut F) -> Result<(), Refusal>
     ensures due { λ r. ⌜ Cases r (λ _. first-refusal shape (F·Fold .room (now (fold .entry))) (now (listing .entry)) ≡ None) (λ e. first-refusal shape (F·Fold .room (now (fold .entry))) (now (listing .entry)) ≡ Some e) ⌝ }
     ensures same { λ _. ⌜ F·Fold .room (now (fold .exit)) ≡ F·Fold .room (now (fold .entry)) ⌝ }
-    ensures made { λ r. ⌜ Cases r (λ _. F·Fold .holds (now (fold .entry)) [] → F·Fold .holds (now (fold .exit)) (parts (shape .leaves) (now (listing .entry)) [])) (λ _. Unit {0}) ⌝ }
+    ensures made { λ r. ⌜ Cases r (λ _. F·Fold .holds (now (fold .entry)) (now (fold .entry)) [] → F·Fold .holds (now (fold .entry)) (now (fold .exit)) (parts (shape .leaves) (now (listing .entry)) [])) (λ _. Unit {0}) ⌝ }
 {
     if listing.len() > LONGEST || listing.len() % 2 != 0 {
         return Err(refused(Reason::BadLength, 0));
@@ -87,7 +87,7 @@ fn read_nodes<F: Fold>(shape: Shape, listing: &[u8], fold: &mut F) -> Result<(),
 pub fn read<F: Fold>(shape: Shape, listing: &[u8], fold: &mut F) -> Result<(), Refusal>
     ensures due { λ r. ⌜ r ≡ outcome (first-refusal shape (F·Fold .room (now (fold .entry))) (now (listing .entry))) ⌝ }
     ensures answers { λ _. ⌜ Answers shape (F·Fold .room (now (fold .entry))) (now (listing .entry)) ⌝ }
-    ensures made { λ _. ⌜ ((t : Tree) → Reads shape (F·Fold .room (now (fold .entry))) (now (listing .entry)) t → F·Fold .holds (now (fold .entry)) [] → F·Fold .holds (now (fold .exit)) (t ∷ [])) ⌝ }
+    ensures made { λ _. ⌜ ((t : Tree) → Reads shape (F·Fold .room (now (fold .entry))) (now (listing .entry)) t → F·Fold .holds (now (fold .entry)) (now (fold .entry)) [] → F·Fold .holds (now (fold .entry)) (now (fold .exit)) (t ∷ [])) ⌝ }
     ensures same { λ _. ⌜ F·Fold .room (now (fold .exit)) ≡ F·Fold .room (now (fold .entry)) ⌝ }
 {
     read_nodes(shape, listing, fold)

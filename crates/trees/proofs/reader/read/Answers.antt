@@ -9,7 +9,7 @@ returns g c =
     record {
       due = due;
       answers = answers _ _ _;
-      made = tree-held (c .args .shape) (g .F·Fold .room (now (c .args .fold))) (now (c .args .listing)) (g .F·Fold .holds (now (c .args .fold)) _)
-          (g .F·Fold .holds (c .read-nodes .last .fold)) (c .read-nodes .result) due (c .read-nodes .ensures .made);
+      made = tree-held (c .args .shape) (g .F·Fold .room (now (c .args .fold))) (now (c .args .listing)) (g .F·Fold .holds (now (c .args .fold)) (now (c .args .fold)) _)
+          (g .F·Fold .holds (now (c .args .fold)) (c .read-nodes .last .fold)) (c .read-nodes .result) due (c .read-nodes .ensures .made);
       same = c .read-nodes .ensures .same;
     }

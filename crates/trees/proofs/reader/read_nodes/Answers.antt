@@ -27,5 +27,5 @@ loop-bytes-again g c =
       omega (arith, h .due .1),
       c .read-node .ensures .same ∙ same,
       λ held. turn-parts sh (g .F·Fold .room (c .args .fold .now)) n (c .in-Continue-height .height) bs _ two (take-rest bs 2) (h .due .1)
-          (g .F·Fold .holds (c .loop-bytes .fold)) (g .F·Fold .holds (c .read-node .last .fold)) k _ none (h .made) (c .loop-bytes .inv .4 held),
+          (g .F·Fold .holds (c .args .fold .now) (c .loop-bytes .fold)) (g .F·Fold .holds (c .args .fold .now) (c .read-node .last .fold)) k _ none (h .made (c .args .fold .now)) (c .loop-bytes .inv .4 held),
     )

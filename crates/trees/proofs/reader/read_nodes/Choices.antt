@@ -14,9 +14,9 @@ Inv-loop-bytes g l =
     × (l .place * 2 + length (l .bytes) ≡ length (l .entry .bytes))
     × (l .height ≤ l .place)
     × (g .F·Fold .room (l .fold) ≡ room)
-    × (g .F·Fold .holds (l .entry .fold) [] → (ts : List Tree) × (length ts ≡ l .height)
+    × (g .F·Fold .holds (l .entry .fold) (l .entry .fold) [] → (ts : List Tree) × (length ts ≡ l .height)
     × (parts (l .shape .leaves) (l .bytes) ts ≡ parts (l .shape .leaves) (l .entry .bytes) [])
-    × g .F·Fold .holds (l .fold) ts)
+    × g .F·Fold .holds (l .entry .fold) (l .fold) ts)
 
 abbrev pub μ-loop-bytes : given.MeasureT-loop-bytes
 μ-loop-bytes g l = length (l .bytes)

@@ -8,7 +8,7 @@ use Rattle.trees.proofs.parts.SizesFold.add_inner.Needs as need
 pub returns : need.returns
 returns c = record {
   same = places-set _ _ _;
-  made = λ l r ts e h.
+  made = λ _ l r ts e h.
       let a = value-left (λ v t. v ≡ capped (size t)) _ l r ts _ e (h .0) 0 in
       let b = value-right (λ v t. v ≡ capped (size t)) _ l r ts _ e (h .0) 0 in
       let s : c .saturating-add-2 .result ≡ capped (size (inner (c .args .-label) (c .args .-marks) l r))

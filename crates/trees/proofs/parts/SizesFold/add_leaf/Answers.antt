@@ -9,5 +9,5 @@ pub returns : need.returns
 returns c = record {
   free = sym (lt-ltb _ _ (c .if-height-self .left));
   same = places-set _ _ _;
-  made = λ ts e _ h. (values-push (λ v t. v ≡ capped (size t)) _ (leaf (c .args .-label) (c .args .-marks)) ts _ 1 e (c .if-height-self .left) refl (h .0), refl);
+  made = λ _ ts e _ h. (values-push (λ v t. v ≡ capped (size t)) _ (leaf (c .args .-label) (c .args .-marks)) ts _ 1 e (c .if-height-self .left) refl (h .0), refl);
 }
