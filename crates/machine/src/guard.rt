@@ -12,5 +12,9 @@ pub fn asks_leaf(shape: Shape, label: u8, marks: u8) -> bool
 pub fn asks_inner(shape: Shape, count: u64, label: u8, marks: u8, left: u64, right: u64) -> bool
     ensures { λ r. ⌜ r ≡ inner-asked shape count label marks left right ⌝ }
 {
-    label >= shape.leaves && shape.has_label(label) && shape.has_marks(marks) && left < count && right < count
+    label >= shape.leaves
+        && shape.has_label(label)
+        && shape.has_marks(marks)
+        && left < count
+        && right < count
 }

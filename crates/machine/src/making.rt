@@ -8,5 +8,9 @@ use trees::Refusal;
 pub fn refused(reason: Reason) -> Refusal
     ensures { λ r. ⌜ r ≡ refusal reason ⌝ }
 {
-    Refusal { reason, place: 0, origin: Origin::Machines }
+    Refusal {
+        reason,
+        place: 0,
+        origin: Origin::Machines,
+    }
 }

@@ -37,10 +37,12 @@ module _ {V : Type 0} (value : V → ℕ) (limit : ℕ) (M : Automaton) (sh : Sh
         ltb-true 0 (length after) (ap (λ (f : ℕ → Bool). f 0) same ∙ w .1 .stacked 0 (need-pos (w .0)))
 
     pub run-answered : (N : Automaton)
-      → ((t : Tree) → Reads sh (places before) bs t → CodesOf M M limit value before [] → CodesOf M N limit value after (t ∷ []))
-      → (d : V) (x : ℕ) → x ≡ value (getD after 0 d) → Ran M limit (places before) bs (Ok x)
+        → ((t : Tree) → Reads sh (places before) bs t → CodesOf M M limit value before [] → CodesOf M N limit value after (t ∷ []))
+        → (d : V) (x : ℕ) → x ≡ value (getD after 0 d) → Ran M limit (places before) bs (Ok x)
     run-answered N made d x e =
         let w = read-tree sh (places before) bs u answers due in
-        let held = made (w .0) (w .1) (refl, λ _. tt) in
-        (w .0, subst (λ (s : Shape). Reads s (places before) bs (w .0)) shaped (w .1),
-          subst (λ (A : Automaton). A .count ≤ limit → x ≡ code A (w .0)) (held .0) (λ fit. e ∙ held .1 fit .1 d))
+        let held = made (w .0) (w .1) (refl, λ _. tt) in (
+          w .0,
+          subst (λ (s : Shape). Reads s (places before) bs (w .0)) shaped (w .1),
+          subst (λ (A : Automaton). A .count ≤ limit → x ≡ code A (w .0)) (held .0) (λ fit. e ∙ held .1 fit .1 d),
+        )

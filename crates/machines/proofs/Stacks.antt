@@ -17,13 +17,13 @@ module _ {V : Type 0} (value : V → ℕ) (limit : ℕ) (M : Automaton) (law : L
   Codes xs ts = M .count ≤ limit → ValuesOf Has xs ts
 
   pub leaf-pushed : (xs : List V) (ts : List Tree) (i a m x : ℕ) (v : V) → length ts ≡ i → i < length xs
-    → x ≡ M .leaf-step a m → (x < limit → value v ≡ x) → Codes xs ts → Codes (set xs i v) (leaf a m ∷ ts)
+      → x ≡ M .leaf-step a m → (x < limit → value v ≡ x) → Codes xs ts → Codes (set xs i v) (leaf a m ∷ ts)
   leaf-pushed xs ts i a m x v e lt is put held fit =
       values-push Has xs (leaf a m) ts i v e lt (put (omega (arith, is, law .leaf-in a m)) ∙ is) (held fit)
 
   pub inner-joined : (xs : List V) (l r : Tree) (ts : List Tree) (h a m x y z : ℕ) (u w v : V) → length ts + 2 ≡ h
-    → x ≡ value (getD xs (h - 2) u) → y ≡ value (getD xs (h - 1) w) → z ≡ M .inner-step a m x y → (z < limit → value v ≡ z)
-    → Codes xs (r ∷ l ∷ ts) → Codes (set xs (h - 2) v) (inner a m l r ∷ ts)
+      → x ≡ value (getD xs (h - 2) u) → y ≡ value (getD xs (h - 1) w) → z ≡ M .inner-step a m x y → (z < limit → value v ≡ z)
+      → Codes xs (r ∷ l ∷ ts) → Codes (set xs (h - 2) v) (inner a m l r ∷ ts)
   inner-joined xs l r ts h a m x y z u w v e from-l from-r is put held fit =
       let left : x ≡ code M l = from-l ∙ value-left Has xs l r ts h e (held fit) u in
       let right : y ≡ code M r = from-r ∙ value-right Has xs l r ts h e (held fit) w in

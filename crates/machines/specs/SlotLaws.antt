@@ -39,5 +39,5 @@ cell-lt false N x bs = omega arith
 pub slot-lawful : (sh : Shape) (N : ℕ) (bs : List ℕ) → Lawful (slot-automaton sh N bs)
 slot-lawful sh N bs =
     guarded-lawful sh (codes (sized sh N) N bs) _ _ _ (codes-pos (sized sh N) N bs) (codes-few (sized sh N) N bs (few sh N))
-      (λ a m h k. cell-lt (sized sh N) N (getD bs (leaf-address sh N a m) 0) bs)
-      (λ a m x y h k u v. cell-lt (sized sh N) N (getD bs (inner-address sh N a m x y) 0) bs)
+    (λ a m h k. cell-lt (sized sh N) N (getD bs (leaf-address sh N a m) 0) bs)
+    (λ a m x y h k u v. cell-lt (sized sh N) N (getD bs (inner-address sh N a m x y) 0) bs)

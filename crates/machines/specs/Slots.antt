@@ -37,6 +37,6 @@ abbrev pub slot-automaton : Shape → ℕ → List ℕ → Automaton
 slot-automaton sh N bs =
     let ok = sized sh N in
     guarded sh (codes ok N bs)
-      (λ a m. cond ok (kept (states-of N bs) (getD bs (leaf-address sh N a m) 0)) 0)
-      (λ a m x y. cond ok (kept (states-of N bs) (getD bs (inner-address sh N a m x y) 0)) 0)
-      (λ x. ok && eqb (getD bs (1 + x) 0) 1)
+    (λ a m. cond ok (kept (states-of N bs) (getD bs (leaf-address sh N a m) 0)) 0)
+    (λ a m x y. cond ok (kept (states-of N bs) (getD bs (inner-address sh N a m x y) 0)) 0)
+    (λ x. ok && eqb (getD bs (1 + x) 0) 1)

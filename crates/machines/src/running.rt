@@ -2,13 +2,13 @@
 ghost use mathlib.Core.Path.{_≡_};
 ghost use lib.ListN.{length, replicate};
 ghost use Rattle.trees.specs.Parts.{places};
-ghost use Rattle.machines.specs.Runs.{CodesOf, Ran};
+ghost use Rattle.machines.specs.Runs.{CodesOf, Ran, Judged};
 use crate::cell::Code;
 use lent::Cleared;
 use machine::Machine;
-use trees::read;
 use trees::Fold;
 use trees::Refusal;
+use trees::read;
 
 // The codes of the open parts.
 #[derive(Drop)]
@@ -43,17 +43,37 @@ impl<M: Machine, C: Code> Fold for Codes<'_, '_, M, C> as CodesFold {
 fn run_in<M: Machine, C: Code>(machine: &M, listing: &[u8], stack: &mut [C]) -> Result<u64, Refusal>
     ensures { λ r. ⌜ Ran (M·Machine .meaning (now (machine .entry))) (C·Code .limit) (places (now (stack .entry))) (now (listing .entry)) r ⌝ }
 {
-    let mut codes = Codes { machine, stack: &mut *stack };
+    let mut codes = Codes {
+        machine,
+        stack: &mut *stack,
+    };
     read(machine.shape(), listing, &mut codes)?;
     Ok(codes.stack[0].get())
 }
 
 // The code of the tree whose listing this is, or the first refusal due. The stack has a place for each open part; its
 // numbers must hold every code below the machine's count, or the code answered is free.
-pub fn run<M: Machine, C: Code>(machine: &M, listing: &[u8], stack: &mut [C]) -> Result<u64, Refusal>
+pub fn run<M: Machine, C: Code>(
+    machine: &M,
+    listing: &[u8],
+    stack: &mut [C],
+) -> Result<u64, Refusal>
     ensures answer { λ r. ⌜ Ran (M·Machine .meaning (now (machine .entry))) (C·Code .limit) (places (now (stack .entry))) (now (listing .entry)) r ⌝ }
     ensures cleared { λ _. ⌜ now (stack .exit) ≡ replicate (length (now (stack .entry))) (C·Zero .null) ⌝ }
 {
     let guard = Cleared { cells: &mut *stack };
     run_in(machine, listing, guard.cells)
+}
+
+// Whether the machine accepts the tree whose listing this is; otherwise as `run`.
+pub fn judge<M: Machine, C: Code>(
+    machine: &M,
+    listing: &[u8],
+    stack: &mut [C],
+) -> Result<bool, Refusal>
+    ensures answer { λ r. ⌜ Judged (M·Machine .meaning (now (machine .entry))) (C·Code .limit) (places (now (stack .entry))) (now (listing .entry)) r ⌝ }
+    ensures cleared { λ _. ⌜ now (stack .exit) ≡ replicate (length (now (stack .entry))) (C·Zero .null) ⌝ }
+{
+    let code = run(machine, listing, stack)?;
+    Ok(machine.is_final(code))
 }

@@ -5,9 +5,9 @@ ghost use Prim.Native.Nat.{ℕ, _+_, _-_, _*_, _^_, _<_, _≤_};
 ghost use lib.ListN.{length, getD};
 ghost use Rattle.machines.specs.Slots.{sized, states-of, kept, slot-automaton};
 ghost use Rattle.machines.specs.SlotLaws.{slot-lawful};
+use machine::Machine;
 use machine::asks_inner;
 use machine::asks_leaf;
-use machine::Machine;
 use trees::Shape;
 
 #[derive(Clone, Copy)]
@@ -28,7 +28,11 @@ impl Table<'_> {
     fn byte(&self, at: usize) -> u8
         ensures { λ r. ⌜ r ≡ getD (now (now (self .entry) .bytes)) at 0 ⌝ }
     {
-        if at < self.bytes.len() { self.bytes[at] } else { 0 }
+        if at < self.bytes.len() {
+            self.bytes[at]
+        } else {
+            0
+        }
     }
 
     fn states(&self) -> u64
@@ -62,7 +66,9 @@ pub impl<'a> Machine for Table<'a> as TableMachine {
         if !self.is_sized() || !asks_leaf(self.shape, label, marks) {
             return 0;
         }
-        self.cell(1 + self.most + ((label as usize) * (1usize << self.shape.tracks) + marks as usize))
+        self.cell(
+            1 + self.most + ((label as usize) * (1usize << self.shape.tracks) + marks as usize),
+        )
     }
 
     fn inner(&self, label: u8, marks: u8, left: u64, right: u64) -> u64 {
@@ -72,7 +78,12 @@ pub impl<'a> Machine for Table<'a> as TableMachine {
         let marked = 1usize << self.shape.tracks;
         let row = ((label - self.shape.leaves) as usize) * marked + marks as usize;
         let leaves = (self.shape.leaves as usize) * marked;
-        self.cell(1 + self.most + leaves + (row * (self.most * self.most) + left as usize * self.most + right as usize))
+        self.cell(
+            1
+                + self.most
+                + leaves
+                + (row * (self.most * self.most) + left as usize * self.most + right as usize),
+        )
     }
 
     fn is_final(&self, code: u64) -> bool {

@@ -23,10 +23,11 @@ module _ {V : Type 0} (P : V → Tree → Type 0) where
       (simp length-set (h .0), (λ d. subst (λ (x : V). P x t) (sym (getD-set-other xs i (length ts) v d ne)) (h .1 d)), values-above xs ts i v (omega arith) (h .2))
 
   pub values-push : (xs : List V) (t : Tree) (ts : List Tree) (i : ℕ) (v : V) → length ts ≡ i → i < length xs → P v t → ValuesOf P xs ts → ValuesOf P (set xs i v) (t ∷ ts)
-  values-push xs t ts i v e lt is h =
-      (simp length-set (omega arith),
-        (λ d. subst (λ (x : V). P x t) (sym (ap (λ (k : ℕ). getD (set xs i v) k d) e ∙ getD-set-same xs i v d lt)) is),
-        values-above xs ts i v (omega arith) h)
+  values-push xs t ts i v e lt is h = (
+    simp length-set (omega arith),
+    (λ d. subst (λ (x : V). P x t) (sym (ap (λ (k : ℕ). getD (set xs i v) k d) e ∙ getD-set-same xs i v d lt)) is),
+    values-above xs ts i v (omega arith) h,
+  )
 
   -- the newest two of h open parts
   module _ (xs : List V) (l r : Tree) (ts : List Tree) (h : ℕ) (e : length ts + 2 ≡ h) (held : ValuesOf P xs (r ∷ l ∷ ts)) where
