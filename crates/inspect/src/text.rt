@@ -1,4 +1,5 @@
 // A line of input: a word, then decimal numbers parted by blanks or commas.
+use crate::rules::Rule;
 use std::alloc::AllocError;
 use std::alloc::Global;
 use std::alloc::Refused;
@@ -12,6 +13,7 @@ pub enum Command {
     Nothing,
     Shape(Shape),
     Stack(usize),
+    Rule(Option<Rule>),
     Tree(Vec<u8>),
 }
 
@@ -23,6 +25,7 @@ pub enum Fault {
     TooMany,
     TooFew,
     NoShape,
+    NoRule,
     NoMemory,
 }
 
@@ -42,7 +45,7 @@ pub impl fmt::Display for Fault as FaultDisplay {
     fn fmt<W: fmt::Write>(&self, f: &mut fmt::Formatter<W>) -> fmt::Result {
         match self {
             Fault::UnknownWord => f.write_str(
-                "bad line: it begins with none of shape, stack and tree",
+                "bad line: it begins with none of shape, stack, rule and tree",
             ),
             Fault::NotANumber => f.write_str("bad line: not a decimal number"),
             Fault::TooLarge => f.write_str("bad line: a number is too large"),
@@ -50,6 +53,9 @@ pub impl fmt::Display for Fault as FaultDisplay {
             Fault::TooFew => f.write_str("bad line: too few numbers"),
             Fault::NoShape => f.write_str(
                 "bad line: a shape has 1 to 8 leaf labels, 1 to 4 inner labels and 1 to 6 tracks",
+            ),
+            Fault::NoRule => f.write_str(
+                "bad line: a rule is one of one, covered, several, guarded and none",
             ),
             Fault::NoMemory => f.write_str("out of memory"),
         }
@@ -109,6 +115,17 @@ fn places(heap: Global, text: &str) -> Result<usize, Fault> {
     }
 }
 
+fn rule(text: &str) -> Result<Option<Rule>, Fault> {
+    match text.trim() {
+        "one" => Ok(Some(Rule::One)),
+        "covered" => Ok(Some(Rule::Covered)),
+        "several" => Ok(Some(Rule::Several)),
+        "guarded" => Ok(Some(Rule::Guarded)),
+        "none" => Ok(None),
+        _ => Err(Fault::NoRule),
+    }
+}
+
 pub fn read_line(heap: Global, line: &str) -> Result<Command, Fault> {
     let line = line.trim();
     if line.is_empty() {
@@ -118,6 +135,7 @@ pub fn read_line(heap: Global, line: &str) -> Result<Command, Fault> {
     match word {
         "shape" => Ok(Command::Shape(shape(heap, rest)?)),
         "stack" => Ok(Command::Stack(places(heap, rest)?)),
+        "rule" => Ok(Command::Rule(rule(rest)?)),
         "tree" => Ok(Command::Tree(bytes(heap, rest)?)),
         _ => Err(Fault::UnknownWord),
     }

@@ -1,0 +1,36 @@
+// The six atomic rules as machines.
+mod below;
+mod checks;
+mod every;
+mod lab;
+mod left;
+mod marks;
+mod related;
+mod right;
+mod sing;
+mod standings;
+mod sub;
+
+pub use below::Below;
+pub use below::Descendant;
+pub use below::DescendantRelation;
+pub use every::Every;
+pub use every::EveryMachine;
+pub use every::NodeRule;
+pub use lab::Lab;
+pub use lab::Labelled;
+pub use lab::LabelledRule;
+pub use left::Left;
+pub use left::LeftChild;
+pub use left::LeftChildRelation;
+pub use related::Related;
+pub use related::RelatedMachine;
+pub use related::Relation;
+pub use right::Right;
+pub use right::RightChild;
+pub use right::RightChildRelation;
+pub use sing::Sing;
+pub use sing::SingMachine;
+pub use sub::Inclusion;
+pub use sub::InclusionRule;
+pub use sub::Sub;
