@@ -1,5 +1,6 @@
 -- When an atom's machine is made, and what a made one is.
 -- Words:
+--   asked                     the atom that a constructor is asked for
 --   tracks-fit, label-fits    the atom's tracks, its label, are of the shape
 --   atom-refusal sh A         the first refusal due: 1, then 6, then 7
 --   MadeAtom sh A M           M is the automaton of A: it accepts the trees of which A holds, and its codes are its states
@@ -23,6 +24,16 @@ use Rattle.automata.specs.Rules.{Atom, sub, lab, sing, left-of, right-of, below
 use Rattle.automata.specs.Atoms.{atom-automaton}
 use Rattle.automata.specs.Numbering.{CodesAreStates}
 use Rattle.machine.specs.Making.{refusal}
+use Rattle.atoms.specs.declared.atom.Atom.{Atom as Asked}
+use Rattle.atoms.specs.declared.atom.Atom.the-variants.{Sub, Lab, Sing, Left, Right, Below}
+
+abbrev pub asked : Asked → Atom
+asked (Sub i j) = sub i j
+asked (Lab i a) = lab i a
+asked (Sing i) = sing i
+asked (Left i j) = left-of i j
+asked (Right i j) = right-of i j
+asked (Below i j) = below i j
 
 abbrev pub tracks-fit : Shape → Atom → Bool
 tracks-fit sh (sub i j) = ltb i (sh .tracks) && ltb j (sh .tracks)

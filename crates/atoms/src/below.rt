@@ -4,7 +4,8 @@ ghost use Rattle.automata.specs.Rules.{below};
 ghost use Rattle.automata.specs.Atoms.{below-step};
 ghost use Rattle.atoms.specs.Making.{Makes};
 ghost use Rattle.atoms.specs.Meanings.{below-meaning};
-use crate::checks::check_pair;
+use crate::atom::Atom;
+use crate::atom::check_atom;
 use crate::related::Related;
 use crate::related::Relation;
 use crate::standings::alone;
@@ -23,7 +24,7 @@ impl Below {
     pub fn new(shape: Shape, upper: usize, lower: usize) -> Result<Below, Refusal>
         ensures { λ r. ⌜ Makes shape (below upper lower) below-meaning r ⌝ }
     {
-        check_pair(shape, upper, lower)?;
+        check_atom(shape, Atom::Below(upper, lower))?;
         Ok(Related {
             shape,
             relation: Descendant,

@@ -5,9 +5,8 @@ ghost use Rattle.automata.specs.Rules.{lab};
 ghost use Rattle.automata.specs.Atoms.{lab-bad};
 ghost use Rattle.atoms.specs.Making.{Makes};
 ghost use Rattle.atoms.specs.Meanings.{labelled, lab-meaning};
-use crate::checks::check_label;
-use crate::checks::check_limits;
-use crate::checks::check_track;
+use crate::atom::Atom;
+use crate::atom::check_atom;
 use crate::every::Every;
 use crate::every::NodeRule;
 use crate::marks::has_mark;
@@ -27,9 +26,7 @@ impl Lab {
     pub fn new(shape: Shape, track: usize, label: usize) -> Result<Lab, Refusal>
         ensures { λ r. ⌜ Makes shape (lab track label) lab-meaning r ⌝ }
     {
-        check_limits(shape)?;
-        check_track(shape, track)?;
-        check_label(shape, label)?;
+        check_atom(shape, Atom::Lab(track, label))?;
         let rule = Labelled {
             track: track as u8,
             label: label as u8,

@@ -4,7 +4,8 @@ ghost use Rattle.automata.specs.Rules.{left-of};
 ghost use Rattle.automata.specs.Atoms.{left-step};
 ghost use Rattle.atoms.specs.Making.{Makes};
 ghost use Rattle.atoms.specs.Meanings.{left-meaning};
-use crate::checks::check_pair;
+use crate::atom::Atom;
+use crate::atom::check_atom;
 use crate::related::Related;
 use crate::related::Relation;
 use crate::standings::alone;
@@ -24,7 +25,7 @@ impl Left {
     pub fn new(shape: Shape, upper: usize, lower: usize) -> Result<Left, Refusal>
         ensures { λ r. ⌜ Makes shape (left-of upper lower) left-meaning r ⌝ }
     {
-        check_pair(shape, upper, lower)?;
+        check_atom(shape, Atom::Left(upper, lower))?;
         Ok(Related {
             shape,
             relation: LeftChild,

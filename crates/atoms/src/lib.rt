@@ -1,6 +1,6 @@
 // The six atomic rules as machines.
+mod atom;
 mod below;
-mod checks;
 mod every;
 mod lab;
 mod left;

@@ -4,7 +4,8 @@ ghost use Rattle.automata.specs.Rules.{right-of};
 ghost use Rattle.automata.specs.Atoms.{right-step};
 ghost use Rattle.atoms.specs.Making.{Makes};
 ghost use Rattle.atoms.specs.Meanings.{right-meaning};
-use crate::checks::check_pair;
+use crate::atom::Atom;
+use crate::atom::check_atom;
 use crate::related::Related;
 use crate::related::Relation;
 use crate::standings::alone;
@@ -24,7 +25,7 @@ impl Right {
     pub fn new(shape: Shape, upper: usize, lower: usize) -> Result<Right, Refusal>
         ensures { λ r. ⌜ Makes shape (right-of upper lower) right-meaning r ⌝ }
     {
-        check_pair(shape, upper, lower)?;
+        check_atom(shape, Atom::Right(upper, lower))?;
         Ok(Related {
             shape,
             relation: RightChild,

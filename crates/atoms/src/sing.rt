@@ -3,8 +3,8 @@ ghost use Rattle.automata.specs.Rules.{sing};
 ghost use Rattle.automata.proofs.AtomAutomata.{atom-lawful};
 ghost use Rattle.atoms.specs.Making.{Makes};
 ghost use Rattle.atoms.specs.Meanings.{sing-meaning};
-use crate::checks::check_limits;
-use crate::checks::check_track;
+use crate::atom::Atom;
+use crate::atom::check_atom;
 use crate::marks::has_mark;
 use machine::Machine;
 use machine::asks_inner;
@@ -25,8 +25,7 @@ impl Sing {
     pub fn new(shape: Shape, track: usize) -> Result<Sing, Refusal>
         ensures { λ r. ⌜ Makes shape (sing track) sing-meaning r ⌝ }
     {
-        check_limits(shape)?;
-        check_track(shape, track)?;
+        check_atom(shape, Atom::Sing(track))?;
         Ok(Sing {
             shape,
             track: track as u8,

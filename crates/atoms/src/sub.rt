@@ -5,7 +5,8 @@ ghost use Rattle.automata.specs.Rules.{sub};
 ghost use Rattle.automata.specs.Atoms.{sub-bad};
 ghost use Rattle.atoms.specs.Making.{Makes};
 ghost use Rattle.atoms.specs.Meanings.{inclusion, sub-meaning};
-use crate::checks::check_pair;
+use crate::atom::Atom;
+use crate::atom::check_atom;
 use crate::every::Every;
 use crate::every::NodeRule;
 use crate::marks::has_mark;
@@ -25,7 +26,7 @@ impl Sub {
     pub fn new(shape: Shape, smaller: usize, larger: usize) -> Result<Sub, Refusal>
         ensures { λ r. ⌜ Makes shape (sub smaller larger) sub-meaning r ⌝ }
     {
-        check_pair(shape, smaller, larger)?;
+        check_atom(shape, Atom::Sub(smaller, larger))?;
         let rule = Inclusion {
             smaller: smaller as u8,
             larger: larger as u8,
