@@ -1,13 +1,15 @@
--- Atoms worked out on two small trees.
+-- Worked examples of the definitions: readings, and atoms on two small trees.
 -- Words:
 --   shape-212      2 leaf labels, 1 inner label, 2 tracks
 --   first-tree     a leaf of track 0 and a leaf of track 1 under an unmarked node
 --   second-tree    a leaf of track 1 and an unmarked leaf under a node of track 0
 --   AtomExamples   what holds of them
+--   WorkedExamples all worked examples: of the reading and of the atoms
 use mathlib.Core.Path.{_≡_}
 use mathlib.Core.List.{[], _∷_}
 use Rattle.trees.specs.declared.shape.Shape.{Shape}
 use Rattle.trees.specs.Trees.{Tree, leaf, inner, Shaped, listing}
+use Rattle.trees.specs.Laws.{ReadingExamples}
 use Rattle.automata.specs.Rules.{AtomHolds, sub, lab, sing, left-of, right-of, below}
 
 abbrev pub shape-212 : Shape
@@ -31,3 +33,7 @@ pub record AtomExamples : Type 0 where
   pub holds-left : AtomHolds (left-of 0 1) second-tree
   pub holds-below : AtomHolds (below 0 1) second-tree
   pub not-right : ¬ AtomHolds (right-of 0 1) second-tree
+
+pub record WorkedExamples : Type 0 where
+  pub readings : ReadingExamples
+  pub atoms : AtomExamples

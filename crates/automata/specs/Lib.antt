@@ -4,4 +4,4 @@ pub mod Atoms
 pub mod Layers
 pub mod Numbering
 pub mod Examples
-pub mod Theorems
+pub mod EqualTracks

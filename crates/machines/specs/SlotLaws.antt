@@ -10,7 +10,8 @@ use Rattle.std.proofs.shelf.Tests.{and-parts, leb-true, ltb-true, cond-both}
 use Rattle.trees.specs.declared.shape.Shape.{Shape}
 use Rattle.automata.specs.Automata.{Lawful}
 use Rattle.automata.proofs.Guards.{guarded-lawful}
-use Rattle.machines.specs.Slots.{sized, states-of, kept, codes, leaf-address, inner-address, slot-automaton}
+use Rattle.tables.specs.Images.{states-of, kept, leaf-address, inner-address}
+use Rattle.machines.specs.Slots.{sized, codes, slot-automaton}
 
 states-pos : (N : ℕ) (bs : List ℕ) → 1 ≤ states-of N bs
 states-pos N bs = omega arith
