@@ -1,12 +1,11 @@
 -- Marks at the two values of a track, by operations on bits.
 use mathlib.Core.Path.{_≡_, refl, sym, ap, _∙_}
 use mathlib.Core.Bool.{Bool, true, false, cond}
-use Prim.Native.Nat.{ℕ, zero, suc, _+_, _-_, _*_, _/_, _%_, _^_, _<_, _≤_}
+use Prim.Native.Nat.{ℕ, _+_, _-_, _*_, _/_, _%_, _^_}
 use native.Mathlib.Nat.{one-mul, zero-mul}
 use native.Mathlib.Omega.{arith}
 use lib.Bits.{bitAnd, bitOr, bitXor, and-high, or-add-and, xor-add-and}
-use lib.Dec.{eqb}
-use lib.Pow.{pow-pos, pow-add}
+use lib.Pow.{pow-add}
 use Rattle.trees.specs.Nodes.{bit, put-bit}
 use Rattle.trees.proofs.PutBits.{bit-put-same}
 use Rattle.layers.proofs.Least.{member-fits}

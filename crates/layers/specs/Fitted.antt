@@ -4,7 +4,6 @@
 --   fitted b M    M where b holds; else one code, and no final code
 use mathlib.Core.Path.{_≡_, refl, ap}
 use mathlib.Core.Bool.{Bool, true, false, cond}
-use Prim.Native.Nat.{ℕ, _^_, _<_, _≤_}
 use native.Mathlib.Omega.{arith}
 use Rattle.automata.specs.Automata.{Automaton, Lawful}
 

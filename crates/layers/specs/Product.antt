@@ -1,8 +1,10 @@
 -- Products.
 -- Words:
 --   pair-refusal A B     the first refusal due to a product of A and B: 11 where the shapes differ, then 12 where the codes are too many
+--   same-shape           two shapes have the same numbers
 --   pair-fits A B        the codes of a product are not too many
 --   pair-counts A B      the counts of the product and of B, where the codes are not too many
+--   pair-meaning op A B  the product where it fits, else idle
 --   product-meaning      what a Product means, by its connective and what the machines below mean
 --   MadePair op A B N    N is the product of A and B, its finals joined by op
 --   MadeBoth A B N       and so accepts exactly the trees that both accept

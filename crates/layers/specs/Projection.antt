@@ -4,11 +4,12 @@
 --   some-count i M      the count of those sets, where that holds
 --   some-refusal i M    the first refusal due to Some at track i over M: 6 where there is no such track, then 12 where the codes are too many
 --   leaf-code i M       the set of codes that a leaf gives at the two values of track i
---   pair-code M a p q x y    that which x and y give under label a, at the marks p and q
---   row-code .. Y x     that which x gives with the members of Y
---   rows-code .. X Y    that which the members of X give with those of Y
+--   pair-set, pair-code    that which x and y give under label a, at the marks p and q: as a test, and as one number
+--   row-set, row-code   that which x gives with the members of Y
+--   rows-code           that which the members of X give with those of Y
 --   inner-code i M      the same, at the two values of track i
 --   HasFinal M X        a member of X is final; NoneFinal M X, none is
+--   some-meaning i M    the projection where it fits, else idle
 --   exists-meaning      what an Exists means, by what the machine below means
 --   MadeSome i M N      N is M with track i projected away: it accepts exactly the trees that some set, put in the track, makes one that M accepts
 use mathlib.Core.Path.{_≡_}

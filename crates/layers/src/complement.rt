@@ -1,7 +1,5 @@
 // Complement: what the machine below does not accept.
-ghost use mathlib.Core.Path.{_≡_};
 ghost use Rattle.automata.proofs.Products.{not-lawful};
-ghost use Rattle.automata.specs.Automata.{Automaton, Lawful};
 ghost use Rattle.layers.specs.Complement.{not-meaning, MadeNot};
 use machine::Machine;
 use trees::Shape;
@@ -12,6 +10,7 @@ pub struct Not<M> {
 }
 
 impl<M: Machine> Not<M> {
+    // Refuses nothing.
     pub fn new(of: M) -> Not<M>
         ensures { λ r. ⌜ MadeNot (M·Machine .meaning of) (not-meaning (M·Machine .meaning) r) ⌝ }
     {

@@ -1,11 +1,10 @@
 // Product: two machines side by side, their finals joined by a connective.
 ghost use mathlib.Core.Path.{_≡_};
 ghost use mathlib.Core.Bool.{Bool, cond, _&&_, _||_};
-ghost use Prim.Native.Nat.{_+_, _*_, _^_, _≤_, _<_};
+ghost use Prim.Native.Nat.{_+_, _*_, _^_, _<_};
 ghost use lib.Dec.{leb};
 ghost use Rattle.std.specs.Results.{Cases};
 ghost use Rattle.std.specs.declared.option.Option.the-variants.{Some, None};
-ghost use Rattle.automata.specs.Automata.{Automaton, Lawful};
 ghost use Rattle.layers.specs.Product.{same-shape, pair-counts, pair-refusal, product-meaning, pair-meaning-lawful, MadePair, MadeBoth, MadeEither};
 use machine::Machine;
 use machine::asks_inner;
@@ -19,6 +18,7 @@ use trees::ShapePartialEq;
 // The most codes that a machine may have.
 const MOST_CODES: u64 = 0x1_0000_0000;
 
+// How two machines' finals make one.
 pub trait Connective {
     ghost op: { Bool → Bool → Bool };
 
@@ -48,6 +48,7 @@ pub impl Connective for Or as OrConnective {
     }
 }
 
+// The code of a pair is the left code times the count of the right machine, plus the right code.
 #[derive_where(Clone, Copy; C, A, B)]
 pub struct Product<C, A, B> {
     connective: C,
@@ -84,6 +85,7 @@ fn paired(left: u64, right: u64, width: u64) -> u64
 }
 
 impl<C: Connective + Drop, A: Machine + Drop, B: Machine + Drop> Product<C, A, B> {
+    // Refuses machines of different shapes, then those whose pairs are too many.
     pub fn of(connective: C, left: A, right: B) -> Result<Product<C, A, B>, Refusal>
         ensures { λ r. ⌜ Cases r (λ n. MadePair (C·Connective .op) (A·Machine .meaning left) (B·Machine .meaning right) (product-meaning (C·Connective .op) (A·Machine .meaning) (B·Machine .meaning) n)) (λ e. pair-refusal (A·Machine .meaning left) (B·Machine .meaning right) ≡ Some e) ⌝ }
     {
@@ -118,7 +120,8 @@ impl<A: Machine + Drop, B: Machine + Drop> Product<Or, A, B> {
 }
 
 impl<C: Connective, A: Machine, B: Machine> Product<C, A, B> {
-    // The count of the pairs and of the right machine's codes; none where the pairs are too many.
+    // The count of the pairs and of the right machine's codes. None where the pairs are too many: `of` makes no such
+    // product, and it stands idle.
     fn counts(&self) -> Option<(u64, u64)>
         ensures { λ r. ⌜ r ≡ pair-counts (A·Machine .meaning (now (self .entry) .left)) (B·Machine .meaning (now (self .entry) .right)) ⌝ }
     {

@@ -4,7 +4,6 @@ ghost use Prim.Native.Nat.{_^_, _<_, _≤_};
 ghost use lib.Bits.{bitOr, bitXor};
 ghost use Rattle.std.specs.Results.{Cases};
 ghost use Rattle.std.specs.declared.option.Option.the-variants.{Some, None};
-ghost use Rattle.automata.specs.Automata.{Automaton, Lawful};
 ghost use Rattle.std.specs.Orderings.{When};
 ghost use Rattle.layers.specs.Projection.{some-count, some-refusal, exists-meaning, some-meaning-lawful, leaf-code, pair-code, row-code, inner-code, HasFinal, NoneFinal, MadeSome};
 use crate::members::Members;
@@ -61,6 +60,7 @@ fn due<M: Machine>(of: &M, track: usize) -> Option<Refusal>
 }
 
 impl<M: Machine + Drop> Exists<M> {
+    // Refuses a track that the shape lacks, then a machine of more codes than 32.
     pub fn new(of: M, track: usize) -> Result<Exists<M>, Refusal>
         ensures { λ r. ⌜ Cases r (λ n. MadeSome track (M·Machine .meaning of) (exists-meaning (M·Machine .meaning) n)) (λ e. some-refusal track (M·Machine .meaning of) ≡ Some e) ⌝ }
     {
@@ -72,7 +72,8 @@ impl<M: Machine + Drop> Exists<M> {
 }
 
 impl<M: Machine> Exists<M> {
-    // The count of the sets; none where they are too many, or the track is no bit of a byte.
+    // The count of the sets. None where they are too many, or the track is no bit of a byte: then the projection stands
+    // idle.
     fn sets(&self) -> Option<u64>
         ensures { λ r. ⌜ r ≡ some-count (now (self .entry) .track) (M·Machine .meaning (now (self .entry) .of)) ⌝ }
     {
@@ -124,6 +125,7 @@ impl<M: Machine> Exists<M> {
         set
     }
 
+    // What a leaf gives at both values of the track.
     fn gather_leaf(&self, label: u8, marks: u8) -> u64
         requires few { ⌜ M·Machine .meaning (now self .of) .count ≤ 32 ⌝ }
         requires track { ⌜ now self .track < 8 ⌝ }
@@ -136,6 +138,7 @@ impl<M: Machine> Exists<M> {
         )
     }
 
+    // Stops at the first final member.
     fn has_final(&self, set: u64) -> bool
         ensures { λ r. ⌜ When r (HasFinal (M·Machine .meaning (now (self .entry) .of)) set) (NoneFinal (M·Machine .meaning (now (self .entry) .of)) set) ⌝ }
     {

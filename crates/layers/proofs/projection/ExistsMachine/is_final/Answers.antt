@@ -1,9 +1,5 @@
-use mathlib.Core.Path.{_≡_}
-use mathlib.Core.Bool.{_&&_}
 use Prim.Native.Nat.{_^_, _<_}
 use native.Mathlib.Omega.{arith}
-use Rattle.trees.specs.Nodes.{bit}
-use Rattle.automata.specs.Layers.{any}
 use Rattle.layers.proofs.Gatherings.{any-is}
 use Rattle.layers.proofs.projection.ExistsMachine.is_final.Needs as need
 
