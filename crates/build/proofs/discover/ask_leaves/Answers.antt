@@ -7,36 +7,36 @@ use Rattle.build.proofs.discover.ask_leaves.Goals as goal
 pub meet-requires : goal.meet-requires
 meet-requires g c = (c.loop-row.invariant.1, (omega (arith, c.loop-row.auto.codes), c.requires.ready.fits.few))
 
-pub leaf-address-requires : goal.leaf-address-requires
-leaf-address-requires g c = (
+pub leaf_address-requires : goal.leaf_address-requires
+leaf_address-requires g c = (
   c.requires.ready.fits,
   (
-    row_label c.args.layout.shape _ _ _ c.step-label.ensures.0 c.step-label.ensures.1 _ (omega (arith, c.loop-row-test.true, c.leaf-rows-row-end.ensures)),
+    row_label c.args.layout.shape _ _ _ c.step-label.ensures.0 c.step-label.ensures.1 _ (omega (arith, c.loop-row-test.true, c.leaf_rows-row-end.ensures)),
     row_marks c.args.layout.shape _ _ _ c.step-label.ensures.0 c.step-label.ensures.1,
   ),
 )
 
-pub bounds-cells-leaf-address : goal.bounds-cells-leaf-address
-bounds-cells-leaf-address g c =
+pub bounds-cells-leaf_address : goal.bounds-cells-leaf_address
+bounds-cells-leaf_address g c =
     (leaf_asked (g.M.Machine.meaning c.args.machine.now) c.args.layout.shape c.requires.ready.shape c.args.layout.most _ (take 0 c.args.codes.now) _ _ _ _ _
-    (omega (arith, c.loop-row.auto.cells, c.requires.ready.cells_lent)) (omega (arith, c.loop-row-test.true, c.leaf-rows-row-end.ensures))
+    (omega (arith, c.loop-row.auto.cells, c.requires.ready.cells_lent)) (omega (arith, c.loop-row-test.true, c.leaf_rows-row-end.ensures))
     c.step-label.ensures.0 c.step-label.ensures.1 refl c.leaf_address.ensures).low
 
-pub returns-in-err-i : goal.returns-in-err-i
-returns-in-err-i g c = record {
+pub returns-in_err-i : goal.returns-in_err-i
+returns-in_err-i g c = record {
   room = c.meet.ensures.room;
   sofar = MatchResult-from_err _ _ _ c.from-residual.ensures.0 (λ _. turn_too_many _ _ _ _ _ _ _ c.loop-row.invariant.0
       (leaf_asked (g.M.Machine.meaning c.args.machine.now) c.args.layout.shape c.requires.ready.shape _ _ _ _ _ _ _ _
-      (omega (arith, c.loop-row.auto.cells, c.requires.ready.cells_lent)) (omega (arith, c.loop-row-test.true, c.leaf-rows-row-end.ensures))
-      c.step-label.ensures.0 c.step-label.ensures.1 c.leaf.ensures refl) c.in-err-i.ensures.met);
+      (omega (arith, c.loop-row.auto.cells, c.requires.ready.cells_lent)) (omega (arith, c.loop-row-test.true, c.leaf_rows-row-end.ensures))
+      c.step-label.ensures.0 c.step-label.ensures.1 c.leaf.ensures refl) c.in_err-i.ensures.met);
 }
 
 pub loop-row-preserved : goal.loop-row-preserved
 loop-row-preserved g c = (
   sofar_turn _ _ _ _ _ _ _ _ _ c.loop-row.invariant.0
       (leaf_asked (g.M.Machine.meaning c.args.machine.now) c.args.layout.shape c.requires.ready.shape _ _ _ _ _ _ _ _
-      (omega (arith, c.loop-row.auto.cells, c.requires.ready.cells_lent)) (omega (arith, c.loop-row-test.true, c.leaf-rows-row-end.ensures))
-      c.step-label.ensures.0 c.step-label.ensures.1 c.leaf.ensures c.leaf_address.ensures) c.in-ok-i.ensures.met
+      (omega (arith, c.loop-row.auto.cells, c.requires.ready.cells_lent)) (omega (arith, c.loop-row-test.true, c.leaf_rows-row-end.ensures))
+      c.step-label.ensures.0 c.step-label.ensures.1 c.leaf.ensures c.leaf_address.ensures) c.in_ok-i.ensures.met
       (taken_length _ _ _ c.meet.ensures.room (omega arith)),
   c.meet.ensures.room,
 )
@@ -44,5 +44,5 @@ loop-row-preserved g c = (
 pub returns : goal.returns
 returns g c = record {
   room = c.loop-row.invariant.1;
-  sofar = sofar_at (omega (arith, c.loop-row-test.false, c.leaf-rows-row-end.ensures, c.loop-row.auto.row-end)) c.loop-row.invariant.0;
+  sofar = sofar_at (omega (arith, c.loop-row-test.false, c.leaf_rows-row-end.ensures, c.loop-row.auto.row-end)) c.loop-row.invariant.0;
 }

@@ -12,9 +12,9 @@ loop-turn-init g c = (sofar_at (omega arith) c.requires.sofar.0, c.requires.sofa
 
 pub loop-turn-preserved : goal.loop-turn-preserved
 loop-turn-preserved g c = (
-  sofar_at (ap (λ (n : ℕ). leaf_rows c.args.layout.shape + n * inner_rows c.args.layout.shape) (omega (arith, c.pair-at-x.ensures.place))) c.in-ok-ask-pair.ensures.sofar,
-  c.ask-pair.ensures.room,
-  omega (arith, c.ask-pair.ensures.grows, c.loop-turn.invariant.2),
+  sofar_at (ap (λ (n : ℕ). leaf_rows c.args.layout.shape + n * inner_rows c.args.layout.shape) (omega (arith, c.pair_at-x.ensures.place))) c.in_ok-ask_pair.ensures.sofar,
+  c.ask_pair.ensures.room,
+  omega (arith, c.ask_pair.ensures.grows, c.loop-turn.invariant.2),
 )
 
 pub returns : goal.returns

@@ -5,7 +5,7 @@ use Rattle.build.proofs.Ends.{discovered}
 use Rattle.build.proofs.discover.discover.Goals as goal
 
 pub loop-ring-init : goal.loop-ring-init
-loop-ring-init g c = (sofar_at (omega arith) c.in-ok-ask-leaves.ensures.sofar, c.ask-leaves.ensures.room, omega arith)
+loop-ring-init g c = (sofar_at (omega arith) c.in_ok-ask_leaves.ensures.sofar, c.ask_leaves.ensures.room, omega arith)
 
 pub returns : goal.returns
 returns g c =

@@ -20,5 +20,5 @@ returns c = record {
   room = omega arith;
   grows = omega arith;
   met = subst (λ (i : ℕ). Met (take c.args.len.now c.args.codes.now) (take (c.args.len.now + 1) (set c.args.codes.now c.args.len.now c.args.code)) c.args.code i)
-      (omega arith) (put c.args.codes.now c.args.len.now c.args.code (omega arith) c.in-default.ensures);
+      (omega arith) (put c.args.codes.now c.args.len.now c.args.code (omega arith) c.in_default.ensures);
 }

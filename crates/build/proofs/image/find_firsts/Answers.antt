@@ -5,4 +5,4 @@ use Rattle.build.proofs.image.find_firsts.Goals as goal
 
 pub loop-s-preserved : goal.loop-s-preserved
 loop-s-preserved c =
-    firsts_more _ _ _ _ _ _ c.requires.1.1.1 c.loop-s-test.true c.loop-s.invariant (omega arith) c.first-of.ensures.before c.first-of.ensures.found
+    firsts_more _ _ _ _ _ _ c.requires.1.1.1 c.loop-s-test.true c.loop-s.invariant (omega arith) c.first_of.ensures.before c.first_of.ensures.found

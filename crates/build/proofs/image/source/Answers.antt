@@ -13,8 +13,8 @@ step-nth-requires c =
     let row_in : c.args.j / (c.args.layout.most * c.args.layout.most) < inner_rows c.args.layout.shape = div_below _ _ _ (square_pos _ c.requires.0.some) c.requires.1.0 in
     (c.requires.0, omega (arith, row_in, inner_rows_le c.args.layout.shape c.requires.0.shape))
 
-pub inner-address-requires : goal.inner-address-requires
-inner-address-requires c =
+pub inner_address-requires : goal.inner_address-requires
+inner_address-requires c =
     let row_in : c.args.j / (c.args.layout.most * c.args.layout.most) < inner_rows c.args.layout.shape = div_below _ _ _ (square_pos _ c.requires.0.some) c.requires.1.0 in (
       c.requires.0,
       (
@@ -26,8 +26,8 @@ inner-address-requires c =
       ),
     )
 
-pub overflow-add-label : goal.overflow-add-label
-overflow-add-label c =
+pub overflow_add-label : goal.overflow_add-label
+overflow_add-label c =
     let row_in : c.args.j / (c.args.layout.most * c.args.layout.most) < inner_rows c.args.layout.shape = div_below _ _ _ (square_pos _ c.requires.0.some) c.requires.1.0 in
     let b = bounds c.args.layout.shape c.requires.0.shape in
     let z : c.step-nth.result.0 < c.args.layout.shape.inners = row_label c.args.layout.shape _ _ _ c.step-nth.ensures.0 c.step-nth.ensures.1 _ row_in in

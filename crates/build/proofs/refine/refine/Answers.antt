@@ -5,7 +5,7 @@ use Rattle.build.proofs.Refinements.{discovered_indexed, agreed_numbering, numbe
 use Rattle.build.proofs.refine.refine.Goals as goal
 
 pub loop-count-init : goal.loop-count-init
-loop-count-init g c = finals_coarse _ _ _ _ c.part-finals.ensures
+loop-count-init g c = finals_coarse _ _ _ _ c.part_finals.ensures
 
 pub part-found-requires : goal.part-found-requires
 part-found-requires g c =

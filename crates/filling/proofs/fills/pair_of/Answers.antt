@@ -9,5 +9,5 @@ pub returns : goal.returns
 returns g c =
     product_made g.C.Connective.op (product_meaning g.C.Connective.op table_meaning table_meaning)
     (slot_machine c.args.rack c.args.store.now c.args.left) (slot_machine c.args.rack c.args.store.now c.args.right)
-    (table_meaning c.slot_machine.result) (table_meaning c.slot-machine-2.result) _ c.slot_machine.ensures c.slot-machine-2.ensures
-    (paired c.args.rack c.args.store.now c.args.left c.args.right _ _ c.slot_machine.ensures c.slot-machine-2.ensures) c.of.ensures
+    (table_meaning c.slot_machine.result) (table_meaning c.slot_machine-2.result) _ c.slot_machine.ensures c.slot_machine-2.ensures
+    (paired c.args.rack c.args.store.now c.args.left c.args.right _ _ c.slot_machine.ensures c.slot_machine-2.ensures) c.of.ensures

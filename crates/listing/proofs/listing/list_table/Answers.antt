@@ -27,7 +27,7 @@ returns-then-buffer-length c =
     let long : width c.args.shape c.args.most ≤ length c.args.image.now = omega (arith, c.width.ensures, c.if-image-width.false) in
     let is : c.max.result ≡ states_of c.args.most c.args.image.now = c.max.ensures ∙ ap (λ (n : ℕ). max n 1) c.min.ensures in
     record {
-      answer = refused l c.args.image.now c.args.buffer.now c.max.result c.text-length-length.result ok long is c.text-length-length.ensures c.if-buffer-length.true;
+      answer = refused l c.args.image.now c.args.buffer.now c.max.result c.text_length-length.result ok long is c.text_length-length.ensures c.if-buffer-length.true;
       tells = slot_tells c.args.shape c.args.most c.args.image.now;
     }
 
@@ -38,7 +38,7 @@ returns c =
     let long : width c.args.shape c.args.most ≤ length c.args.image.now = omega (arith, c.width.ensures, c.if-image-width.false) in
     let is : c.max.result ≡ states_of c.args.most c.args.image.now = c.max.ensures ∙ ap (λ (n : ℕ). max n 1) c.min.ensures in
     record {
-      answer = written l c.args.image.now c.args.buffer.now c.max.result c.text-length-length.result ok long is c.text-length-length.ensures
-          c.write-text.new.buffer c.if-buffer-length.false c.write-text.ensures;
+      answer = written l c.args.image.now c.args.buffer.now c.max.result c.text_length-length.result ok long is c.text_length-length.ensures
+          c.write_text.new.buffer c.if-buffer-length.false c.write_text.ensures;
       tells = slot_tells c.args.shape c.args.most c.args.image.now;
     }

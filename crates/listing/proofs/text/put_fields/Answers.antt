@@ -11,7 +11,7 @@ loop-number-init g c = takes_none
 pub loop-number-preserved : goal.loop-number-preserved
 loop-number-preserved g c =
     takes_is (ap fields (sym (take_more c.args.numbers.now c.loop-number.number-index 0 c.loop-number-test.true)))
-    (takes_field (take c.loop-number.number-index c.args.numbers.now) (get_or c.args.numbers.now c.loop-number.number-index 0) c.loop-number.invariant c.put-field.ensures)
+    (takes_field (take c.loop-number.number-index c.args.numbers.now) (get_or c.args.numbers.now c.loop-number.number-index 0) c.loop-number.invariant c.put_field.ensures)
 
 pub returns : goal.returns
 returns g c =

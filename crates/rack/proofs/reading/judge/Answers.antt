@@ -5,7 +5,7 @@ use Rattle.rack.proofs.reading.judge.Goals as goal
 
 pub returns : goal.returns
 returns c = record {
-  done = c.judge-in.ensures;
-  right = verdict_logged c.args.rack c.args.store.now c.args.slot c.args.listing.now (length c.args.stack.now) c.judge-in.result c.judge-in.ensures;
+  done = c.judge_in.ensures;
+  right = verdict_logged c.args.rack c.args.store.now c.args.slot c.args.listing.now (length c.args.stack.now) c.judge_in.result c.judge_in.ensures;
   stack = search rules;
 }

@@ -5,7 +5,7 @@ use Rattle.rack.proofs.reading.list.Goals as goal
 
 pub returns : goal.returns
 returns c = record {
-  done = c.list-in.ensures.done;
-  buffer = c.list-in.ensures.buffer;
-  right = list_logged c.args.rack c.args.store.now c.args.slot (length c.args.buffer.now) c.list-in.result c.list-in.new.buffer c.list-in.ensures.done;
+  done = c.list_in.ensures.done;
+  buffer = c.list_in.ensures.buffer;
+  right = list_logged c.args.rack c.args.store.now c.args.slot (length c.args.buffer.now) c.list_in.result c.list_in.new.buffer c.list_in.ensures.done;
 }

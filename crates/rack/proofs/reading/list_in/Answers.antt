@@ -14,32 +14,32 @@ use Rattle.store.proofs.Exits.{handed}
 use Rattle.rack.proofs.Texts.{listed_done, short_done, always_served}
 use Rattle.rack.proofs.reading.list_in.Goals as goal
 
-pub returns-in-err-width : goal.returns-in-err-width
-returns-in-err-width c =
+pub returns-in_err-width : goal.returns-in_err-width
+returns-in_err-width c =
     let e = handed _ _ c.from-residual.ensures.1 in
     record {
       done = subst (λ (x : Result ℕ Refusal). Done c.args.rack (call_list c.args.slot (length c.args.buffer.now)) c.args.store.now c.args.store.now (listed_by x c.args.buffer.now)) (sym e)
           (denied c.args.rack (call_list c.args.slot (length c.args.buffer.now)) c.args.store.now _
-          (c.in-err-width.ensures (check (leb (length (slot_text c.args.rack.shape c.args.rack.most (slot c.args.rack c.args.store.now c.args.slot))) (length c.args.buffer.now)) (by_rack BufferTooShort) None)));
+          (c.in_err-width.ensures (check (leb (length (slot_text c.args.rack.shape c.args.rack.most (slot c.args.rack c.args.store.now c.args.slot))) (length c.args.buffer.now)) (by_rack BufferTooShort) None)));
       buffer = subst (ListedIn (slot_text c.args.rack.shape c.args.rack.most (slot c.args.rack c.args.store.now c.args.slot)) c.args.buffer.now c.args.buffer.now) (sym e) refl;
     }
 
 pub returns-in-Written : goal.returns-in-Written
 returns-in-Written c =
-    let l = subst (λ (bs : List ℕ). Listed c.args.rack.shape c.args.rack.most bs c.args.buffer.now c.list-table.new.buffer (Written c.in-Written.length)) c.slot-part-image.ensures c.in-Written.ensures.answer in
+    let l = subst (λ (bs : List ℕ). Listed c.args.rack.shape c.args.rack.most bs c.args.buffer.now c.list_table.new.buffer (Written c.in-Written.length)) c.slot_part-image.ensures c.in-Written.ensures.answer in
     record {
-      done = listed_done c.args.rack c.args.store.now c.args.slot c.args.buffer.now c.list-table.new.buffer c.in-ok-width.ensures.1 c.in-Written.length l;
+      done = listed_done c.args.rack c.args.store.now c.args.slot c.args.buffer.now c.list_table.new.buffer c.in_ok-width.ensures.1 c.in-Written.length l;
       buffer = (l.1, l.3);
     }
 
 pub returns-in-Short : goal.returns-in-Short
 returns-in-Short c =
-    let l = subst (λ (bs : List ℕ). Listed c.args.rack.shape c.args.rack.most bs c.args.buffer.now c.list-table.new.buffer (Short c.in-Short.field-0)) c.slot-part-image.ensures c.in-Short.ensures.answer in
+    let l = subst (λ (bs : List ℕ). Listed c.args.rack.shape c.args.rack.most bs c.args.buffer.now c.list_table.new.buffer (Short c.in-Short.field-0)) c.slot_part-image.ensures c.in-Short.ensures.answer in
     record {
-      done = short_done c.args.rack c.args.store.now c.args.slot c.args.buffer.now c.list-table.new.buffer c.in-ok-width.ensures.1 c.in-Short.field-0 _ c.refused.ensures l;
+      done = short_done c.args.rack c.args.store.now c.args.slot c.args.buffer.now c.list_table.new.buffer c.in_ok-width.ensures.1 c.in-Short.field-0 _ c.refused.ensures l;
       buffer = l.3;
     }
 
 pub unreachable-requires : goal.unreachable-requires
 unreachable-requires c =
-    always_served c.args.rack c.args.store.now c.args.slot c.in-ok-width.width _ c.in-ok-width.ensures.0 c.slot-part-image.ensures c.in-Unserved.ensures.answer.0
+    always_served c.args.rack c.args.store.now c.args.slot c.in_ok-width.width _ c.in_ok-width.ensures.0 c.slot_part-image.ensures c.in-Unserved.ensures.answer.0

@@ -6,7 +6,7 @@ use Rattle.rack.proofs.reading.machine.Goals as goal
 
 pub returns : goal.returns
 returns c = (
-  c.in-ok-width.ensures.1 None,
+  c.in_ok-width.ensures.1 None,
   c.slot_machine.ensures,
-  machine_right c.args.rack c.args.store.now c.args.slot (table_meaning c.slot_machine.result) c.slot_machine.ensures (c.in-ok-width.ensures.1 None),
+  machine_right c.args.rack c.args.store.now c.args.slot (table_meaning c.slot_machine.result) c.slot_machine.ensures (c.in_ok-width.ensures.1 None),
 )

@@ -11,15 +11,15 @@ loop-bytes-preserved g c =
     let k = c.loop-bytes.place in
     let n = c.loop-bytes.height in
     let two : 2 ≤ length bs = search rules in
-    let h = c.in-ok-height.ensures in
+    let h = c.in_ok-height.ensures in
     let same = c.loop-bytes.invariant.3 in
     let none : node_refusal sh (g.F.Fold.room c.args.fold.now) k n (get_or bs 0 0) (get_or bs 1 0) ≡ None
     = subst (λ (room : ℕ → Bool). node_refusal sh room k n (get_or bs 0 0) (get_or bs 1 0) ≡ None) same h.due.0 in
     let low = opened_le sh n (get_or bs 0 0) in (
-      turn_refusal sh (g.F.Fold.room c.args.fold.now) n c.in-ok-height.height bs _ two (take_rest bs 2) h.due.1 k none ∙ c.loop-bytes.invariant.0,
+      turn_refusal sh (g.F.Fold.room c.args.fold.now) n c.in_ok-height.height bs _ two (take_rest bs 2) h.due.1 k none ∙ c.loop-bytes.invariant.0,
       simp (take_rest, length-drop) (omega arith),
       omega (arith, h.due.1),
-      c.read-node.ensures.same ∙ same,
-      λ held. turn_parts sh (g.F.Fold.room c.args.fold.now) n c.in-ok-height.height bs _ two (take_rest bs 2) h.due.1
-          (g.F.Fold.holds c.args.fold.now c.loop-bytes.fold) (g.F.Fold.holds c.args.fold.now c.read-node.new.fold) k _ none (h.made c.args.fold.now) (c.loop-bytes.invariant.4 held),
+      c.read_node.ensures.same ∙ same,
+      λ held. turn_parts sh (g.F.Fold.room c.args.fold.now) n c.in_ok-height.height bs _ two (take_rest bs 2) h.due.1
+          (g.F.Fold.holds c.args.fold.now c.loop-bytes.fold) (g.F.Fold.holds c.args.fold.now c.read_node.new.fold) k _ none (h.made c.args.fold.now) (c.loop-bytes.invariant.4 held),
     )

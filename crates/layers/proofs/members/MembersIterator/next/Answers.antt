@@ -4,8 +4,8 @@ use Rattle.trees.proofs.Bits.{bit_zero}
 use Rattle.layers.proofs.Least.{least, took}
 use Rattle.layers.proofs.members.MembersIterator.next.Goals as goal
 
-pub overflow-sub-self : goal.overflow-sub-self
-overflow-sub-self c =
+pub overflow_sub-self : goal.overflow_sub-self
+overflow_sub-self c =
     let below : c.args.self.now.rest < 2 ^ 64 = omega arith in
     let l = least c.args.self.now.rest c.if-self-eq0.false below in
     omega (arith, l.shifted, l.fits)

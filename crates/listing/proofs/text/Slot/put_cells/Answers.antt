@@ -11,7 +11,7 @@ loop-i-init g c = takes_none
 pub loop-i-preserved : goal.loop-i-preserved
 loop-i-preserved g c =
     takes_map (λ j. cell c.args.self.now.states c.args.self.now.bytes.now (c.args.start + j)) c.loop-i.i c.loop-i.invariant
-    (takes_is (ap (λ (n : ℕ). 44 ∷ decimal n) c.cell.ensures) c.put-field.ensures)
+    (takes_is (ap (λ (n : ℕ). 44 ∷ decimal n) c.cell.ensures) c.put_field.ensures)
 
 pub returns : goal.returns
 returns g c =

@@ -12,7 +12,7 @@ loop-state-init g c = takes_none
 pub loop-state-preserved : goal.loop-state-preserved
 loop-state-preserved g c =
     takes_map (λ s. one_if (eqb (get_or c.args.self.now.bytes.now (1 + s) 0) 1)) c.loop-state.state c.loop-state.invariant
-    (takes_is (ap (λ (n : ℕ). 44 ∷ decimal n) (byte_one_if (eqb (get_or c.args.self.now.bytes.now (1 + c.loop-state.state) 0) 1))) c.put-field.ensures)
+    (takes_is (ap (λ (n : ℕ). 44 ∷ decimal n) (byte_one_if (eqb (get_or c.args.self.now.bytes.now (1 + c.loop-state.state) 0) 1))) c.put_field.ensures)
 
 pub returns : goal.returns
 returns g c =

@@ -11,7 +11,7 @@ loop-marks-init g c = takes_none
 pub loop-marks-preserved : goal.loop-marks-preserved
 loop-marks-preserved g c =
     takes_over (lefts_text (read c.args.self.now) c.args.label) 0 c.loop-marks.marks c.loop-marks.marks
-    (omega arith) c.loop-marks.invariant c.put-lefts.ensures
+    (omega arith) c.loop-marks.invariant c.put_lefts.ensures
 
 pub returns : goal.returns
 returns g c =

@@ -11,8 +11,8 @@ use Rattle.listing.proofs.text.Slot.put_leaves.Goals as goal
 pub loop-label-init : goal.loop-label-init
 loop-label-init g c = takes_none
 
-pub put-cells-requires : goal.put-cells-requires
-put-cells-requires g c =
+pub put_cells-requires : goal.put_cells-requires
+put_cells-requires g c =
     leaf_cells_in c.args.self.now c.loop-label.label c.leaf_address.result c.marks.result
     c.requires c.loop-label-test.true c.leaf_address.ensures c.marks.ensures.0 c.marks.ensures.1.0
 
@@ -23,7 +23,7 @@ loop-label-preserved g c =
     (takes_is {s = c.loop-label.sink}
     (ap fields (leaf_cells c.args.self.now c.loop-label.label c.leaf_address.result c.marks.result
     c.leaf_address.ensures c.marks.ensures.0))
-    c.put-cells.ensures)
+    c.put_cells.ensures)
 
 pub returns : goal.returns
 returns g c =

@@ -11,7 +11,7 @@ loop-left-init g c = takes_none
 pub loop-left-preserved : goal.loop-left-preserved
 loop-left-preserved g c =
     takes_over (inner_line (read c.args.self.now) c.args.label c.args.marks) 0 c.loop-left.left c.loop-left.left
-    (omega arith) c.loop-left.invariant c.put-row.ensures
+    (omega arith) c.loop-left.invariant c.put_row.ensures
 
 pub returns : goal.returns
 returns g c =

@@ -11,5 +11,5 @@ use Rattle.listing.proofs.text.Slot.text_length.Goals as goal
 pub returns : goal.returns
 returns c =
     let T : Table = read c.args.self.now in
-    counted_all c.put-text.new.sink.length (table_text c.args.self.now.layout.shape T) (takes_all c.put-text.ensures (λ _. refl))
+    counted_all c.put_text.new.sink.length (table_text c.args.self.now.layout.shape T) (takes_all c.put_text.ensures (λ _. refl))
     (text_short c.args.self.now.layout.shape T c.requires.fits.shape (omega (arith, c.requires.few, c.requires.fits.few)))

@@ -9,10 +9,10 @@ use Rattle.listing.proofs.text.Slot.write_text.Goals as goal
 
 pub returns : goal.returns
 returns c =
-    let t = takes_all c.put-text.ensures (refl, pasted_none 0 c.args.buffer.now) in
+    let t = takes_all c.put_text.ensures (refl, pasted_none 0 c.args.buffer.now) in
     let same = t.0 in
-    let front : c.put-text.new.sink.buffer.now
+    let front : c.put_text.new.sink.buffer.now
     ≡ placed (table_text c.args.self.now.layout.shape (read c.args.self.now)) c.args.buffer.now
-    = pasted_front c.put-text.new.sink.at c.args.buffer.now c.put-text.new.sink.buffer.now
+    = pasted_front c.put_text.new.sink.at c.args.buffer.now c.put_text.new.sink.buffer.now
     (table_text c.args.self.now.layout.shape (read c.args.self.now)) t.1 c.requires.1 in
     search rules

@@ -10,7 +10,7 @@ returns c = record {
   made = λ _ l r ts e h.
       let a = value_left (λ v t. v ≡ capped (size t)) _ l r ts _ e h.0 0 in
       let b = value_right (λ v t. v ≡ capped (size t)) _ l r ts _ e h.0 0 in
-      let s : c.saturating-add-2.result ≡ capped (size (inner c.args.-label c.args.-marks l r))
-      = omega (arith, a, b, c.saturating-add-2.ensures, c.saturating-add.ensures) in
-      (values_join (λ v t. v ≡ capped (size t)) _ l r ts _ e h.0 (inner c.args.-label c.args.-marks l r) _ s, b);
+      let s : c.saturating_add-2.result ≡ capped (size (inner c.args._label c.args._marks l r))
+      = omega (arith, a, b, c.saturating_add-2.ensures, c.saturating_add.ensures) in
+      (values_join (λ v t. v ≡ capped (size t)) _ l r ts _ e h.0 (inner c.args._label c.args._marks l r) _ s, b);
 }

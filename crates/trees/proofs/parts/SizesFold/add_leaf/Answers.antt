@@ -9,5 +9,5 @@ pub returns : goal.returns
 returns c = record {
   free = sym (lt-ltb _ _ c.if-height-self.false);
   same = places_set _ _ _;
-  made = λ _ ts e _ h. (values_push (λ v t. v ≡ capped (size t)) _ (leaf c.args.-label c.args.-marks) ts _ 1 e c.if-height-self.false refl h.0, refl);
+  made = λ _ ts e _ h. (values_push (λ v t. v ≡ capped (size t)) _ (leaf c.args._label c.args._marks) ts _ 1 e c.if-height-self.false refl h.0, refl);
 }
