@@ -13,4 +13,4 @@ pub returns : goal.returns
 returns g c =
     leaf_step (g.M.Machine.meaning c.args.self.now.of) (g.M.Machine.lawful c.args.self.now.of) _ _ _ _
     c.sides_of-sides.ensures.absent c.sides_of-sides.ensures.present
-    _ _ _ _ c.leaf.ensures c.leaf_2.ensures c.set_of.ensures
+    _ _ _ _ c.leaf.ensures c.leaf-2.ensures c.set_of.ensures

@@ -12,4 +12,4 @@ set_of-requires g c =
 pub returns : goal.returns
 returns g c =
     pair_step (g.M.Machine.meaning c.args.self.now.of) (g.M.Machine.lawful c.args.self.now.of)
-    _ _ _ _ _ _ _ _ c.inner.ensures c.inner_2.ensures c.set_of.ensures
+    _ _ _ _ _ _ _ _ c.inner.ensures c.inner-2.ensures c.set_of.ensures
