@@ -40,7 +40,7 @@ fn step_agrees(
     y: usize,
 ) -> bool
     requires indexed { (Indexed layout len cells.now) × (len ≤ length classes.now) }
-    requires inner_label { (InnerLabel layout.shape label) × ((Marks layout.shape marks) × ((x < len) × (y < len))) }
+    requires step { (InnerLabel layout.shape label) × ((Marks layout.shape marks) × ((x < len) × (y < len))) }
     ensures { Tells result (StepAgrees layout len cells.now classes.now label marks x y) }
 {
     for z in 0..len {
@@ -60,7 +60,7 @@ fn step_agrees(
 
 fn steps_agree(layout: Layout, len: usize, cells: &[u8], classes: &[u8], x: usize, y: usize) -> bool
     requires indexed { (Indexed layout len cells.now) × (len ≤ length classes.now) }
-    requires x_lt_len { (x < len) × (y < len) }
+    requires below { (x < len) × (y < len) }
     ensures { Tells result (StepsAgree layout len cells.now classes.now x y) }
 {
     for row in 0..layout.inner_rows() {
@@ -75,7 +75,7 @@ fn steps_agree(layout: Layout, len: usize, cells: &[u8], classes: &[u8], x: usiz
 
 fn agree(layout: Layout, len: usize, cells: &[u8], classes: &[u8], x: usize, y: usize) -> bool
     requires indexed { (Indexed layout len cells.now) × (len ≤ length classes.now) }
-    requires x_lt_len { (x < len) × (y < len) }
+    requires below { (x < len) × (y < len) }
     ensures { Tells result (Agreed layout len cells.now classes.now x y) }
 {
     classes[x] == classes[y] && steps_agree(layout, len, cells, classes, x, y)

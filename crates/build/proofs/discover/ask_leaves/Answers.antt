@@ -25,7 +25,7 @@ bounds-cells-leaf_address g c =
 pub returns-in_err-i : goal.returns-in_err-i
 returns-in_err-i g c = record {
   room = c.meet.ensures.room;
-  sofar = MatchResult-from_err _ _ _ c.from-residual.ensures.0 (λ _. turn_too_many _ _ _ _ _ _ _ c.loop-row.invariant.0
+  sofar = MatchResult-from_err _ _ _ c.from_residual.ensures.0 (λ _. turn_too_many _ _ _ _ _ _ _ c.loop-row.invariant.0
       (leaf_asked (g.M.Machine.meaning c.args.machine.now) c.args.layout.shape c.requires.ready.shape _ _ _ _ _ _ _ _
       (omega (arith, c.loop-row.auto.cells, c.requires.ready.cells_lent)) (omega (arith, c.loop-row-test.true, c.leaf_rows-row-end.ensures))
       c.step-label.ensures.0 c.step-label.ensures.1 c.leaf.ensures refl) c.in_err-i.ensures.met);

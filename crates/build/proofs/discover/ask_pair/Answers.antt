@@ -40,7 +40,7 @@ pub returns-in_err-i : goal.returns-in_err-i
 returns-in_err-i g c = record {
   room = c.meet.ensures.room;
   grows = omega (arith, c.meet.ensures.grows, c.loop-row.invariant.2);
-  sofar = MatchResult-from_err _ _ _ c.from-residual.ensures.0 (λ _. turn_too_many _ _ _ _ _ _ _ c.loop-row.invariant.0
+  sofar = MatchResult-from_err _ _ _ c.from_residual.ensures.0 (λ _. turn_too_many _ _ _ _ _ _ _ c.loop-row.invariant.0
       (inner_asked (g.M.Machine.meaning c.args.machine.now) c.args.layout.shape c.requires.ready.shape _ _ _ _ _ _ _ _ _ _ _
       (omega (arith, c.loop-row.auto.cells, c.requires.ready.cells_lent)) (omega (arith, c.loop-row-test.true, c.inner_rows-row-end.ensures))
       (omega (arith, c.loop-row.invariant.1, c.loop-row.auto.codes, c.requires.ready.codes_lent)) c.loop-row.invariant.1 (omega (arith, c.requires.over, c.loop-row.invariant.2)) (omega (arith, c.requires.over, c.loop-row.invariant.2))

@@ -4,16 +4,16 @@ use Rattle.build.proofs.Refinements.{indexed_step}
 use Rattle.build.proofs.refine.step_agrees.Goals as goal
 
 pub step_class-requires : goal.step_class-requires
-step_class-requires c = indexed_step _ _ _ _ _ _ _ _ c.requires.0.0 c.requires.0.1 c.requires.1.0 c.requires.1.1.0 c.requires.1.1.1.0 c.loop-z-test.true
+step_class-requires c = indexed_step _ _ _ _ _ _ _ _ c.requires.indexed.0 c.requires.indexed.1 c.requires.step.0 c.requires.step.1.0 c.requires.step.1.1.0 c.loop-z-test.true
 
 pub step_class-requires-in-loop-z : goal.step_class-requires-in-loop-z
-step_class-requires-in-loop-z c = indexed_step _ _ _ _ _ _ _ _ c.requires.0.0 c.requires.0.1 c.requires.1.0 c.requires.1.1.0 c.requires.1.1.1.1 c.loop-z-test.true
+step_class-requires-in-loop-z c = indexed_step _ _ _ _ _ _ _ _ c.requires.indexed.0 c.requires.indexed.1 c.requires.step.0 c.requires.step.1.0 c.requires.step.1.1.1 c.loop-z-test.true
 
 pub step_class-requires-in-loop-z-2 : goal.step_class-requires-in-loop-z-2
-step_class-requires-in-loop-z-2 c = indexed_step _ _ _ _ _ _ _ _ c.requires.0.0 c.requires.0.1 c.requires.1.0 c.requires.1.1.0 c.loop-z-test.true c.requires.1.1.1.0
+step_class-requires-in-loop-z-2 c = indexed_step _ _ _ _ _ _ _ _ c.requires.indexed.0 c.requires.indexed.1 c.requires.step.0 c.requires.step.1.0 c.loop-z-test.true c.requires.step.1.1.0
 
 pub step_class-requires-in-loop-z-3 : goal.step_class-requires-in-loop-z-3
-step_class-requires-in-loop-z-3 c = indexed_step _ _ _ _ _ _ _ _ c.requires.0.0 c.requires.0.1 c.requires.1.0 c.requires.1.1.0 c.loop-z-test.true c.requires.1.1.1.1
+step_class-requires-in-loop-z-3 c = indexed_step _ _ _ _ _ _ _ _ c.requires.indexed.0 c.requires.indexed.1 c.requires.step.0 c.requires.step.1.0 c.loop-z-test.true c.requires.step.1.1.1
 
 pub returns-then-step_class : goal.returns-then-step_class
 returns-then-step_class c = λ h. c.if-step_class.true (c.step_class.ensures ∙ ((h c.loop-z.z c.loop-z-test.true).0 ∙ sym c.step_class-in-loop-z.ensures))

@@ -8,19 +8,19 @@ use Rattle.build.proofs.refine.steps_agree.Goals as goal
 
 pub overflow_add-label : goal.overflow_add-label
 overflow_add-label c =
-    let b = bounds c.args.layout.shape c.requires.0.0.fits.shape in
+    let b = bounds c.args.layout.shape c.requires.indexed.0.fits.shape in
     let z : c.step-nth.result.0 < c.args.layout.shape.inners
     = row_label c.args.layout.shape _ _ _ c.step-nth.ensures.0 c.step-nth.ensures.1 _ (omega (arith, c.loop-row-test.true, c.inner_rows-row-end.ensures)) in
     omega (arith, z, b.leaves, b.inners)
 
 pub step_agrees-requires : goal.step_agrees-requires
-step_agrees-requires c = (
-  c.requires.0,
-  (
+step_agrees-requires c = record {
+  indexed = c.requires.indexed;
+  step = (
     row_inner c.args.layout.shape _ _ _ c.step-nth.ensures.0 c.step-nth.ensures.1 (omega (arith, c.loop-row-test.true, c.inner_rows-row-end.ensures)),
-    (row_marks c.args.layout.shape _ _ _ c.step-nth.ensures.0 c.step-nth.ensures.1, c.requires.1),
-  ),
-)
+    (row_marks c.args.layout.shape _ _ _ c.step-nth.ensures.0 c.step-nth.ensures.1, c.requires.below),
+  );
+}
 
 pub returns-then-not-step_agrees : goal.returns-then-not-step_agrees
 returns-then-not-step_agrees c = λ h. c.if-not-step_agrees.ensures

@@ -10,7 +10,7 @@ use Rattle.filling.proofs.fills.fill_atom.Goals as goal
 
 pub returns-in_err-width : goal.returns-in_err-width
 returns-in_err-width c =
-    denied c.args.rack (call_atom c.args.res (asked c.args.atom) (lent c.args.codes.now c.args.cells.now c.args.classes.now)) c.args.store.now _ _ c.from-residual.ensures.1
+    denied c.args.rack (call_atom c.args.res (asked c.args.atom) (lent c.args.codes.now c.args.cells.now c.args.classes.now)) c.args.store.now _ _ c.from_residual.ensures.1
     (c.in_err-width.ensures (or_else (atom_refusal c.args.rack.shape (asked c.args.atom)) (check_lent c.args.rack (lent c.args.codes.now c.args.cells.now c.args.classes.now))))
 
 pub build_atom-requires : goal.build_atom-requires
@@ -20,7 +20,7 @@ pub returns-in_err-build_atom : goal.returns-in_err-build_atom
 returns-in_err-build_atom c =
     atom_not_built c.args.rack (call_atom c.args.res (asked c.args.atom) (lent c.args.codes.now c.args.cells.now c.args.classes.now)) c.args.store.now c.args.res (asked c.args.atom) (lent c.args.codes.now c.args.cells.now c.args.classes.now) c.build_atom.new.cells refl
     (c.in_ok-width.ensures.1 (or_else (atom_refusal c.args.rack.shape (asked c.args.atom)) (check_lent c.args.rack (lent c.args.codes.now c.args.cells.now c.args.classes.now)))) _ _
-    c.from-residual-in_err-build_atom.ensures.1 c.in_err-build_atom.ensures
+    c.from_residual-in_err-build_atom.ensures.1 c.in_err-build_atom.ensures
 
 pub put_slot-requires : goal.put_slot-requires
 put_slot-requires c =

@@ -9,7 +9,7 @@ use Rattle.filling.proofs.Ends.{denied, not_built, placed}
 use Rattle.filling.proofs.fills.fill_not.Goals as goal
 
 pub returns-in_err-width : goal.returns-in_err-width
-returns-in_err-width c = denied c.args.rack (call_not c.args.res c.args.source (lent c.args.codes.now c.args.cells.now c.args.classes.now)) c.args.store.now _ _ c.from-residual.ensures.1 (c.in_err-width.ensures (check_lent c.args.rack (lent c.args.codes.now c.args.cells.now c.args.classes.now)))
+returns-in_err-width c = denied c.args.rack (call_not c.args.res c.args.source (lent c.args.codes.now c.args.cells.now c.args.classes.now)) c.args.store.now _ _ c.from_residual.ensures.1 (c.in_err-width.ensures (check_lent c.args.rack (lent c.args.codes.now c.args.cells.now c.args.classes.now)))
 
 pub build_in-requires : goal.build_in-requires
 build_in-requires c = (
@@ -21,7 +21,7 @@ pub returns-in_err-build_in : goal.returns-in_err-build_in
 returns-in_err-build_in c =
     not_built c.args.rack (call_not c.args.res c.args.source (lent c.args.codes.now c.args.cells.now c.args.classes.now)) c.args.store.now c.args.res (not_layer (slot_machine c.args.rack c.args.store.now c.args.source)) _
     (c.new-machine.ensures.layer ∙ ap not_layer c.slot_machine.ensures) (lent c.args.codes.now c.args.cells.now c.args.classes.now) c.build_in.new.cells refl
-    (c.in_ok-width.ensures.1 (check_lent c.args.rack (lent c.args.codes.now c.args.cells.now c.args.classes.now))) _ _ c.from-residual-in_err-build_in.ensures.1 c.in_err-build_in.ensures
+    (c.in_ok-width.ensures.1 (check_lent c.args.rack (lent c.args.codes.now c.args.cells.now c.args.classes.now))) _ _ c.from_residual-in_err-build_in.ensures.1 c.in_err-build_in.ensures
 
 pub put_slot-requires : goal.put_slot-requires
 put_slot-requires c =

@@ -15,11 +15,11 @@ use Rattle.filling.proofs.Layers.{track_refused, track_passed}
 use Rattle.filling.proofs.fills.fill_some.Goals as goal
 
 pub returns-in_err-width : goal.returns-in_err-width
-returns-in_err-width c = denied c.args.rack (call_some c.args.res c.args.source c.args.track (lent c.args.codes.now c.args.cells.now c.args.classes.now)) c.args.store.now _ _ c.from-residual.ensures.1 (c.in_err-width.ensures (check (ltb c.args.track c.args.rack.shape.tracks) (refusal NoSuchTrack) (check_lent c.args.rack (lent c.args.codes.now c.args.cells.now c.args.classes.now))))
+returns-in_err-width c = denied c.args.rack (call_some c.args.res c.args.source c.args.track (lent c.args.codes.now c.args.cells.now c.args.classes.now)) c.args.store.now _ _ c.from_residual.ensures.1 (c.in_err-width.ensures (check (ltb c.args.track c.args.rack.shape.tracks) (refusal NoSuchTrack) (check_lent c.args.rack (lent c.args.codes.now c.args.cells.now c.args.classes.now))))
 
 pub returns-in_err-machine : goal.returns-in_err-machine
 returns-in_err-machine c =
-    denied c.args.rack (call_some c.args.res c.args.source c.args.track (lent c.args.codes.now c.args.cells.now c.args.classes.now)) c.args.store.now _ _ c.from-residual-in_err-machine.ensures.1
+    denied c.args.rack (call_some c.args.res c.args.source c.args.track (lent c.args.codes.now c.args.cells.now c.args.classes.now)) c.args.store.now _ _ c.from_residual-in_err-machine.ensures.1
     (c.in_ok-width.ensures.1 (check (ltb c.args.track c.args.rack.shape.tracks) (refusal NoSuchTrack) (check_lent c.args.rack (lent c.args.codes.now c.args.cells.now c.args.classes.now)))
     ∙ track_refused c.args.rack c.args.store.now c.args.source c.args.track _ c.slot_machine.ensures _ (check_lent c.args.rack (lent c.args.codes.now c.args.cells.now c.args.classes.now)) c.in_err-machine.ensures)
 
@@ -34,7 +34,7 @@ returns-in_err-build_in c =
     not_built c.args.rack (call_some c.args.res c.args.source c.args.track (lent c.args.codes.now c.args.cells.now c.args.classes.now)) c.args.store.now c.args.res (some_layer c.args.track (slot_machine c.args.rack c.args.store.now c.args.source)) _
     (c.in_ok-machine.ensures.layer (subst Limited (sym (ap (λ (m : Automaton). m.shape) c.slot_machine.ensures)) (rack_limits c.args.rack c.in_ok-width.ensures.0.opened.fits).fits.shape) ∙ ap (some_layer c.args.track) c.slot_machine.ensures) (lent c.args.codes.now c.args.cells.now c.args.classes.now) c.build_in.new.cells refl
     (c.in_ok-width.ensures.1 (check (ltb c.args.track c.args.rack.shape.tracks) (refusal NoSuchTrack) (check_lent c.args.rack (lent c.args.codes.now c.args.cells.now c.args.classes.now)))
-    ∙ track_passed c.args.rack c.args.store.now c.args.source c.args.track _ c.slot_machine.ensures (check_lent c.args.rack (lent c.args.codes.now c.args.cells.now c.args.classes.now)) c.in_ok-machine.ensures.due) _ _ c.from-residual-in_err-build_in.ensures.1 c.in_err-build_in.ensures
+    ∙ track_passed c.args.rack c.args.store.now c.args.source c.args.track _ c.slot_machine.ensures (check_lent c.args.rack (lent c.args.codes.now c.args.cells.now c.args.classes.now)) c.in_ok-machine.ensures.due) _ _ c.from_residual-in_err-build_in.ensures.1 c.in_err-build_in.ensures
 
 pub put_slot-requires : goal.put_slot-requires
 put_slot-requires c =

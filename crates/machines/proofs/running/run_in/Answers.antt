@@ -5,7 +5,7 @@ use Rattle.machines.proofs.running.run_in.Goals as goal
 
 pub returns-in_err-read : goal.returns-in_err-read
 returns-in_err-read g c =
-    let p = err_from_is_err_and c.from-residual.result c.from-residual.ensures.1 in
+    let p = err_from_is_err_and c.from_residual.result c.from_residual.ensures.1 in
     rw (p.1, p.2)
     (run_refused g.C.Code.value g.C.Code.limit (g.M.Machine.meaning c.args.machine.now) c.shape.result c.shape.ensures c.args.listing.now c.args.stack.now c.args.stack.now _
     c.in_err-read.ensures.due)

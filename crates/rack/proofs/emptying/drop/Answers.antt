@@ -7,7 +7,7 @@ use Rattle.rack.proofs.emptying.drop.Goals as goal
 
 pub returns-in_err-width : goal.returns-in_err-width
 returns-in_err-width c =
-    denied c.args.rack (call_drop c.args.slot) c.args.store.now _ _ c.from-residual.ensures.1 (c.in_err-width.ensures None)
+    denied c.args.rack (call_drop c.args.slot) c.args.store.now _ _ c.from_residual.ensures.1 (c.in_err-width.ensures None)
 
 pub returns : goal.returns
 returns c =

@@ -12,7 +12,7 @@ pub returns-in_err-width : goal.returns-in_err-width
 returns-in_err-width c = record {
   made = unmade _ (rack_of c.args.leaves c.args.inners c.args.tracks c.args.most c.args.slots)
       (rack_made c.in-Some.shape _ c.args.most c.args.slots (shape_made _ _ _ c.in-Some.shape c.in-Some.ensures))
-      c.args.store.now _ _ c.from-residual.ensures.1 c.in_err-width.ensures;
+      c.args.store.now _ _ c.from_residual.ensures.1 c.in_err-width.ensures;
   whole = guarantee;
 }
 

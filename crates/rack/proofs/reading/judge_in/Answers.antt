@@ -12,7 +12,7 @@ use Rattle.rack.proofs.reading.judge_in.Goals as goal
 pub returns-in_err-width : goal.returns-in_err-width
 returns-in_err-width c =
     subst (λ (x : Result Bool Refusal). Done c.args.rack (call_judge c.args.slot c.args.listing.now (length c.args.stack.now)) c.args.store.now c.args.store.now (judged_by x))
-    (sym (handed _ _ c.from-residual.ensures.1))
+    (sym (handed _ _ c.from_residual.ensures.1))
     (denied c.args.rack (call_judge c.args.slot c.args.listing.now (length c.args.stack.now)) c.args.store.now _
     (c.in_err-width.ensures (first_refusal c.args.rack.shape (λ n. ltb n (length c.args.stack.now)) c.args.listing.now)))
 

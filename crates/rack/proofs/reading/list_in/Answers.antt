@@ -16,7 +16,7 @@ use Rattle.rack.proofs.reading.list_in.Goals as goal
 
 pub returns-in_err-width : goal.returns-in_err-width
 returns-in_err-width c =
-    let e = handed _ _ c.from-residual.ensures.1 in
+    let e = handed _ _ c.from_residual.ensures.1 in
     record {
       done = subst (λ (x : Result ℕ Refusal). Done c.args.rack (call_list c.args.slot (length c.args.buffer.now)) c.args.store.now c.args.store.now (listed_by x c.args.buffer.now)) (sym e)
           (denied c.args.rack (call_list c.args.slot (length c.args.buffer.now)) c.args.store.now _

@@ -8,13 +8,13 @@ use Rattle.store.proofs.checks.full_slot.Goals as goal
 
 pub returns-in_err-known : goal.returns-in_err-known
 returns-in_err-known c =
-    exits (full_chain c.args.rack c.args.store.now c.args.slot) (SlotIn c.args.rack c.args.store.now c.args.slot) _ _ c.from-residual-in_err-known.ensures.1
+    exits (full_chain c.args.rack c.args.store.now c.args.slot) (SlotIn c.args.rack c.args.store.now c.args.slot) _ _ c.from_residual-in_err-known.ensures.1
     (λ rest. c.in_ok-width.ensures.1 (check_slot c.args.rack c.args.slot (check_full (is_taken c.args.rack c.args.store.now) c.args.slot rest))
     ∙ (c.in_err-known.ensures (check_full (is_taken c.args.rack c.args.store.now) c.args.slot rest)))
 
 pub returns-in_err-full : goal.returns-in_err-full
 returns-in_err-full c =
-    exits (full_chain c.args.rack c.args.store.now c.args.slot) (SlotIn c.args.rack c.args.store.now c.args.slot) _ _ c.from-residual-in_err-full.ensures.1
+    exits (full_chain c.args.rack c.args.store.now c.args.slot) (SlotIn c.args.rack c.args.store.now c.args.slot) _ _ c.from_residual-in_err-full.ensures.1
     (λ rest. c.in_ok-width.ensures.1 (check_slot c.args.rack c.args.slot (check_full (is_taken c.args.rack c.args.store.now) c.args.slot rest))
     ∙ (c.in_ok-known.ensures.1 (check_full (is_taken c.args.rack c.args.store.now) c.args.slot rest)
     ∙ (c.in_err-full.ensures rest)))

@@ -8,20 +8,20 @@ use Rattle.store.proofs.checks.one_source.Goals as goal
 
 pub returns-in_err-known : goal.returns-in_err-known
 returns-in_err-known c =
-    exits (one_source_chain c.args.rack c.args.store.now c.args.res c.args.source) (SourceIn c.args.rack c.args.store.now c.args.res c.args.source) _ _ c.from-residual-in_err-known.ensures.1
+    exits (one_source_chain c.args.rack c.args.store.now c.args.res c.args.source) (SourceIn c.args.rack c.args.store.now c.args.res c.args.source) _ _ c.from_residual-in_err-known.ensures.1
     (λ rest. c.in_ok-width.ensures.1 (check_slot c.args.rack c.args.res (check_slot c.args.rack c.args.source (check_free (is_taken c.args.rack c.args.store.now) c.args.res (check_full (is_taken c.args.rack c.args.store.now) c.args.source rest))))
     ∙ (c.in_err-known.ensures (check_slot c.args.rack c.args.source (check_free (is_taken c.args.rack c.args.store.now) c.args.res (check_full (is_taken c.args.rack c.args.store.now) c.args.source rest)))))
 
 pub returns-in_err-known-2 : goal.returns-in_err-known-2
 returns-in_err-known-2 c =
-    exits (one_source_chain c.args.rack c.args.store.now c.args.res c.args.source) (SourceIn c.args.rack c.args.store.now c.args.res c.args.source) _ _ c.from-residual-in_err-known-2.ensures.1
+    exits (one_source_chain c.args.rack c.args.store.now c.args.res c.args.source) (SourceIn c.args.rack c.args.store.now c.args.res c.args.source) _ _ c.from_residual-in_err-known-2.ensures.1
     (λ rest. c.in_ok-width.ensures.1 (check_slot c.args.rack c.args.res (check_slot c.args.rack c.args.source (check_free (is_taken c.args.rack c.args.store.now) c.args.res (check_full (is_taken c.args.rack c.args.store.now) c.args.source rest))))
     ∙ (c.in_ok-known.ensures.1 (check_slot c.args.rack c.args.source (check_free (is_taken c.args.rack c.args.store.now) c.args.res (check_full (is_taken c.args.rack c.args.store.now) c.args.source rest)))
     ∙ (c.in_err-known-2.ensures (check_free (is_taken c.args.rack c.args.store.now) c.args.res (check_full (is_taken c.args.rack c.args.store.now) c.args.source rest)))))
 
 pub returns-in_err-free : goal.returns-in_err-free
 returns-in_err-free c =
-    exits (one_source_chain c.args.rack c.args.store.now c.args.res c.args.source) (SourceIn c.args.rack c.args.store.now c.args.res c.args.source) _ _ c.from-residual-in_err-free.ensures.1
+    exits (one_source_chain c.args.rack c.args.store.now c.args.res c.args.source) (SourceIn c.args.rack c.args.store.now c.args.res c.args.source) _ _ c.from_residual-in_err-free.ensures.1
     (λ rest. c.in_ok-width.ensures.1 (check_slot c.args.rack c.args.res (check_slot c.args.rack c.args.source (check_free (is_taken c.args.rack c.args.store.now) c.args.res (check_full (is_taken c.args.rack c.args.store.now) c.args.source rest))))
     ∙ (c.in_ok-known.ensures.1 (check_slot c.args.rack c.args.source (check_free (is_taken c.args.rack c.args.store.now) c.args.res (check_full (is_taken c.args.rack c.args.store.now) c.args.source rest)))
     ∙ (c.in_ok-known-2.ensures.1 (check_free (is_taken c.args.rack c.args.store.now) c.args.res (check_full (is_taken c.args.rack c.args.store.now) c.args.source rest))
@@ -29,7 +29,7 @@ returns-in_err-free c =
 
 pub returns-in_err-full : goal.returns-in_err-full
 returns-in_err-full c =
-    exits (one_source_chain c.args.rack c.args.store.now c.args.res c.args.source) (SourceIn c.args.rack c.args.store.now c.args.res c.args.source) _ _ c.from-residual-in_err-full.ensures.1
+    exits (one_source_chain c.args.rack c.args.store.now c.args.res c.args.source) (SourceIn c.args.rack c.args.store.now c.args.res c.args.source) _ _ c.from_residual-in_err-full.ensures.1
     (λ rest. c.in_ok-width.ensures.1 (check_slot c.args.rack c.args.res (check_slot c.args.rack c.args.source (check_free (is_taken c.args.rack c.args.store.now) c.args.res (check_full (is_taken c.args.rack c.args.store.now) c.args.source rest))))
     ∙ (c.in_ok-known.ensures.1 (check_slot c.args.rack c.args.source (check_free (is_taken c.args.rack c.args.store.now) c.args.res (check_full (is_taken c.args.rack c.args.store.now) c.args.source rest)))
     ∙ (c.in_ok-known-2.ensures.1 (check_free (is_taken c.args.rack c.args.store.now) c.args.res (check_full (is_taken c.args.rack c.args.store.now) c.args.source rest))

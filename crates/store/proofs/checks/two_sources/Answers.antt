@@ -8,20 +8,20 @@ use Rattle.store.proofs.checks.two_sources.Goals as goal
 
 pub returns-in_err-known : goal.returns-in_err-known
 returns-in_err-known c =
-    exits (two_sources_chain c.args.rack c.args.store.now c.args.res c.args.left c.args.right) (SourcesIn c.args.rack c.args.store.now c.args.res c.args.left c.args.right) _ _ c.from-residual-in_err-known.ensures.1
+    exits (two_sources_chain c.args.rack c.args.store.now c.args.res c.args.left c.args.right) (SourcesIn c.args.rack c.args.store.now c.args.res c.args.left c.args.right) _ _ c.from_residual-in_err-known.ensures.1
     (λ rest. c.in_ok-width.ensures.1 (check_slot c.args.rack c.args.res (check_slot c.args.rack c.args.left (check_slot c.args.rack c.args.right (check_free (is_taken c.args.rack c.args.store.now) c.args.res (check_full (is_taken c.args.rack c.args.store.now) c.args.left (check_full (is_taken c.args.rack c.args.store.now) c.args.right rest))))))
     ∙ (c.in_err-known.ensures (check_slot c.args.rack c.args.left (check_slot c.args.rack c.args.right (check_free (is_taken c.args.rack c.args.store.now) c.args.res (check_full (is_taken c.args.rack c.args.store.now) c.args.left (check_full (is_taken c.args.rack c.args.store.now) c.args.right rest)))))))
 
 pub returns-in_err-known-2 : goal.returns-in_err-known-2
 returns-in_err-known-2 c =
-    exits (two_sources_chain c.args.rack c.args.store.now c.args.res c.args.left c.args.right) (SourcesIn c.args.rack c.args.store.now c.args.res c.args.left c.args.right) _ _ c.from-residual-in_err-known-2.ensures.1
+    exits (two_sources_chain c.args.rack c.args.store.now c.args.res c.args.left c.args.right) (SourcesIn c.args.rack c.args.store.now c.args.res c.args.left c.args.right) _ _ c.from_residual-in_err-known-2.ensures.1
     (λ rest. c.in_ok-width.ensures.1 (check_slot c.args.rack c.args.res (check_slot c.args.rack c.args.left (check_slot c.args.rack c.args.right (check_free (is_taken c.args.rack c.args.store.now) c.args.res (check_full (is_taken c.args.rack c.args.store.now) c.args.left (check_full (is_taken c.args.rack c.args.store.now) c.args.right rest))))))
     ∙ (c.in_ok-known.ensures.1 (check_slot c.args.rack c.args.left (check_slot c.args.rack c.args.right (check_free (is_taken c.args.rack c.args.store.now) c.args.res (check_full (is_taken c.args.rack c.args.store.now) c.args.left (check_full (is_taken c.args.rack c.args.store.now) c.args.right rest)))))
     ∙ (c.in_err-known-2.ensures (check_slot c.args.rack c.args.right (check_free (is_taken c.args.rack c.args.store.now) c.args.res (check_full (is_taken c.args.rack c.args.store.now) c.args.left (check_full (is_taken c.args.rack c.args.store.now) c.args.right rest)))))))
 
 pub returns-in_err-known-3 : goal.returns-in_err-known-3
 returns-in_err-known-3 c =
-    exits (two_sources_chain c.args.rack c.args.store.now c.args.res c.args.left c.args.right) (SourcesIn c.args.rack c.args.store.now c.args.res c.args.left c.args.right) _ _ c.from-residual-in_err-known-3.ensures.1
+    exits (two_sources_chain c.args.rack c.args.store.now c.args.res c.args.left c.args.right) (SourcesIn c.args.rack c.args.store.now c.args.res c.args.left c.args.right) _ _ c.from_residual-in_err-known-3.ensures.1
     (λ rest. c.in_ok-width.ensures.1 (check_slot c.args.rack c.args.res (check_slot c.args.rack c.args.left (check_slot c.args.rack c.args.right (check_free (is_taken c.args.rack c.args.store.now) c.args.res (check_full (is_taken c.args.rack c.args.store.now) c.args.left (check_full (is_taken c.args.rack c.args.store.now) c.args.right rest))))))
     ∙ (c.in_ok-known.ensures.1 (check_slot c.args.rack c.args.left (check_slot c.args.rack c.args.right (check_free (is_taken c.args.rack c.args.store.now) c.args.res (check_full (is_taken c.args.rack c.args.store.now) c.args.left (check_full (is_taken c.args.rack c.args.store.now) c.args.right rest)))))
     ∙ (c.in_ok-known-2.ensures.1 (check_slot c.args.rack c.args.right (check_free (is_taken c.args.rack c.args.store.now) c.args.res (check_full (is_taken c.args.rack c.args.store.now) c.args.left (check_full (is_taken c.args.rack c.args.store.now) c.args.right rest))))
@@ -29,7 +29,7 @@ returns-in_err-known-3 c =
 
 pub returns-in_err-free : goal.returns-in_err-free
 returns-in_err-free c =
-    exits (two_sources_chain c.args.rack c.args.store.now c.args.res c.args.left c.args.right) (SourcesIn c.args.rack c.args.store.now c.args.res c.args.left c.args.right) _ _ c.from-residual-in_err-free.ensures.1
+    exits (two_sources_chain c.args.rack c.args.store.now c.args.res c.args.left c.args.right) (SourcesIn c.args.rack c.args.store.now c.args.res c.args.left c.args.right) _ _ c.from_residual-in_err-free.ensures.1
     (λ rest. c.in_ok-width.ensures.1 (check_slot c.args.rack c.args.res (check_slot c.args.rack c.args.left (check_slot c.args.rack c.args.right (check_free (is_taken c.args.rack c.args.store.now) c.args.res (check_full (is_taken c.args.rack c.args.store.now) c.args.left (check_full (is_taken c.args.rack c.args.store.now) c.args.right rest))))))
     ∙ (c.in_ok-known.ensures.1 (check_slot c.args.rack c.args.left (check_slot c.args.rack c.args.right (check_free (is_taken c.args.rack c.args.store.now) c.args.res (check_full (is_taken c.args.rack c.args.store.now) c.args.left (check_full (is_taken c.args.rack c.args.store.now) c.args.right rest)))))
     ∙ (c.in_ok-known-2.ensures.1 (check_slot c.args.rack c.args.right (check_free (is_taken c.args.rack c.args.store.now) c.args.res (check_full (is_taken c.args.rack c.args.store.now) c.args.left (check_full (is_taken c.args.rack c.args.store.now) c.args.right rest))))
@@ -38,7 +38,7 @@ returns-in_err-free c =
 
 pub returns-in_err-full : goal.returns-in_err-full
 returns-in_err-full c =
-    exits (two_sources_chain c.args.rack c.args.store.now c.args.res c.args.left c.args.right) (SourcesIn c.args.rack c.args.store.now c.args.res c.args.left c.args.right) _ _ c.from-residual-in_err-full.ensures.1
+    exits (two_sources_chain c.args.rack c.args.store.now c.args.res c.args.left c.args.right) (SourcesIn c.args.rack c.args.store.now c.args.res c.args.left c.args.right) _ _ c.from_residual-in_err-full.ensures.1
     (λ rest. c.in_ok-width.ensures.1 (check_slot c.args.rack c.args.res (check_slot c.args.rack c.args.left (check_slot c.args.rack c.args.right (check_free (is_taken c.args.rack c.args.store.now) c.args.res (check_full (is_taken c.args.rack c.args.store.now) c.args.left (check_full (is_taken c.args.rack c.args.store.now) c.args.right rest))))))
     ∙ (c.in_ok-known.ensures.1 (check_slot c.args.rack c.args.left (check_slot c.args.rack c.args.right (check_free (is_taken c.args.rack c.args.store.now) c.args.res (check_full (is_taken c.args.rack c.args.store.now) c.args.left (check_full (is_taken c.args.rack c.args.store.now) c.args.right rest)))))
     ∙ (c.in_ok-known-2.ensures.1 (check_slot c.args.rack c.args.right (check_free (is_taken c.args.rack c.args.store.now) c.args.res (check_full (is_taken c.args.rack c.args.store.now) c.args.left (check_full (is_taken c.args.rack c.args.store.now) c.args.right rest))))
@@ -48,7 +48,7 @@ returns-in_err-full c =
 
 pub returns-in_err-full-2 : goal.returns-in_err-full-2
 returns-in_err-full-2 c =
-    exits (two_sources_chain c.args.rack c.args.store.now c.args.res c.args.left c.args.right) (SourcesIn c.args.rack c.args.store.now c.args.res c.args.left c.args.right) _ _ c.from-residual-in_err-full-2.ensures.1
+    exits (two_sources_chain c.args.rack c.args.store.now c.args.res c.args.left c.args.right) (SourcesIn c.args.rack c.args.store.now c.args.res c.args.left c.args.right) _ _ c.from_residual-in_err-full-2.ensures.1
     (λ rest. c.in_ok-width.ensures.1 (check_slot c.args.rack c.args.res (check_slot c.args.rack c.args.left (check_slot c.args.rack c.args.right (check_free (is_taken c.args.rack c.args.store.now) c.args.res (check_full (is_taken c.args.rack c.args.store.now) c.args.left (check_full (is_taken c.args.rack c.args.store.now) c.args.right rest))))))
     ∙ (c.in_ok-known.ensures.1 (check_slot c.args.rack c.args.left (check_slot c.args.rack c.args.right (check_free (is_taken c.args.rack c.args.store.now) c.args.res (check_full (is_taken c.args.rack c.args.store.now) c.args.left (check_full (is_taken c.args.rack c.args.store.now) c.args.right rest)))))
     ∙ (c.in_ok-known-2.ensures.1 (check_slot c.args.rack c.args.right (check_free (is_taken c.args.rack c.args.store.now) c.args.res (check_full (is_taken c.args.rack c.args.store.now) c.args.left (check_full (is_taken c.args.rack c.args.store.now) c.args.right rest))))
