@@ -15,7 +15,7 @@ pub struct Size {
     pub width: usize,
 }
 
-#[derive(Drop)]
+#[derive(Debug, Drop)]
 pub enum Fault {
     Io(io::Error),
     Refused(Refusal),

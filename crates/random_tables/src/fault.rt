@@ -3,7 +3,7 @@ use std::alloc::{AllocError, AllocFailed};
 use std::io;
 use trees::Refusal;
 
-#[derive(Drop)]
+#[derive(Debug, Drop)]
 pub enum Fault {
     Io(io::Error),
     Refused(Refusal),
