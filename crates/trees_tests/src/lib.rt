@@ -110,8 +110,8 @@ mod tests {
                 },
             ) => {
                 assert_eq!(rt; (label, marks), (2, 3));
-                assert_eq!(rt; left, &[0, 1]);
-                assert_eq!(rt; right, &[1, 0, 1, 2, 2, 1]);
+                assert_eq!(rt; left, [0, 1].as_slice());
+                assert_eq!(rt; right, [1, 0, 1, 2, 2, 1].as_slice());
                 Ok(())
             }
             _ => Err(Fail::new("an inner root was read")),
