@@ -1,4 +1,6 @@
 // The six atomic rules as machines.
+#![tactic(auto)]
+
 mod atom;
 mod below;
 mod every;

@@ -1,5 +1,5 @@
 -- Sets of numbers as sums of powers of 2.
-use Rattle.std.proofs.Common.{◌≡◌, ℕ, zero, suc, ◌+◌, ◌^◌, ◌<◌, ◌≤◌, Bool, true, false, cond, ◌||◌, T, sym, refl, ap, ◌∙◌, subst, add-zero, arith}
+use Rattle.std.proofs.Common.{◌≡◌, ℕ, zero, suc, ◌+◌, ◌^◌, ◌<◌, Bool, true, false, cond, ◌||◌, T, sym, refl, ap, ◌∙◌, subst, add-zero, arith}
 use native.Mathlib.Decide.{dec_lt}
 use Rattle.trees.specs.Nodes.{bit}
 use Rattle.trees.proofs.Bits.{bit_high, bit_top, bit_small}

@@ -1,4 +1,6 @@
 // Automata over marked trees: rules, the automata of the atoms, and the layers over automata.
+#![tactic(auto)]
+
 ghost use Rattle.automata.specs.EqualTracks.{EqualTracks};
 ghost use Rattle.automata.specs.Examples.{WorkedExamples};
 

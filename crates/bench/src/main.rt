@@ -1,5 +1,7 @@
 // Builds the tables of some rules at a small size and at the largest, and prints for each how many states it has and a
 // checksum of its image. With the argument `times` it prints the best of three times as well.
+#![tactic(auto)]
+
 mod rules;
 mod timing;
 

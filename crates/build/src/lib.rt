@@ -1,4 +1,6 @@
 // The build of a machine's table in lent memory.
+#![tactic(auto)]
+
 mod building;
 mod clearing;
 mod discover;

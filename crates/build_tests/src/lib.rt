@@ -1,3 +1,5 @@
+#![tactic(auto)]
+
 // Tests of built tables.
 #[cfg(test)]
 mod cleared;

@@ -1,5 +1,5 @@
 -- The ends of a call that fills a slot.
-use Rattle.std.proofs.Common.{◌≡◌, ℕ, ◌⊎◌, List, take, IsErrAnd, Some, None, Ok, Err, Option, Result, sym, refl, ap, ◌∙◌, subst, inl, inr}
+use Rattle.std.proofs.Common.{◌≡◌, ℕ, List, take, IsErrAnd, Some, Ok, Err, Option, Result, sym, refl, ap, ◌∙◌, subst, inl, inr}
 use Rattle.trees.specs.declared.refusal.Refusal.{Refusal}
 use Rattle.trees.specs.Reading.{or_else}
 use Rattle.automata.specs.Automata.{Automaton}
@@ -10,7 +10,7 @@ use Rattle.tables.specs.Canonical.{TableIn}
 use Rattle.atoms.specs.Making.{atom_refusal}
 use Rattle.racks.specs.declared.rack.Rack.{Rack}
 use Rattle.racks.specs.Racks.{slot_bytes, put_slot}
-use Rattle.racks.specs.Calls.{Lent, Call, Write, Outcome, refused, filled, due, write, table, check_lent, Crowded, Written, Effect}
+use Rattle.racks.specs.Calls.{Lent, Call, Write, refused, filled, due, write, table, check_lent, Crowded, Written, Effect}
 use Rattle.racks.specs.Promises.{filled_by, Done}
 use Rattle.racks.proofs.Dones as dones
 use Rattle.racks.proofs.Dones.{done}

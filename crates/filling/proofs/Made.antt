@@ -1,5 +1,5 @@
 -- A table that is built serves the rack.
-use Rattle.std.proofs.Common.{◌≡◌, ℕ, ◌*◌, ◌≤◌, Bool, true, ◌&&◌, leb, List, length, take, None, sym, ap, ◌∙◌, subst, arith}
+use Rattle.std.proofs.Common.{◌≡◌, ℕ, ◌*◌, ◌≤◌, Bool, true, ◌&&◌, leb, List, length, take, None, ap, subst, arith}
 use Rattle.std.proofs.lemmas.Bool.{and_parts, leb-true}
 use Rattle.trees.specs.declared.shape.Shape.{Shape}
 use Rattle.trees.specs.declared.refusal.Reason.TheVariants.{MemoryTooShort}
@@ -10,7 +10,7 @@ use Rattle.tables.specs.Canonical.{TableIn}
 use Rattle.build.specs.Building.{TableBuilt}
 use Rattle.racks.specs.declared.rack.Rack.{Rack}
 use Rattle.racks.specs.Racks.{slot_bytes}
-use Rattle.racks.specs.Calls.{by_rack, enough, check_lent}
+use Rattle.racks.specs.Calls.{by_rack, check_lent}
 use Rattle.racks.specs.Promises.{lent}
 use Rattle.filling.specs.Fillings.{MadeTable}
 

@@ -1,4 +1,6 @@
 // The calls that fill a slot with the table of a machine.
+#![tactic(auto)]
+
 mod builds;
 mod calls;
 mod fills;

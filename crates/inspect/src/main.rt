@@ -7,6 +7,8 @@
 //     tree 0,1,1,2,2,0      the bytes of a listing
 //
 // Bad text gets a line of its own, and the next line is read.
+#![tactic(auto)]
+
 mod outline;
 mod rules;
 mod text;

@@ -8,6 +8,8 @@
 //     list                  the listing of the rule's table
 //
 // Bad text gets a line of its own, and the next line is read.
+#![tactic(auto)]
+
 mod bench;
 mod outline;
 mod rules;

@@ -1,4 +1,6 @@
 // Machines over machines: complement, product and projection.
+#![tactic(auto)]
+
 mod complement;
 mod members;
 mod product;

@@ -1,4 +1,6 @@
 // Guards over lent memory: whichever way a function ends, the slice it was lent ends all zeros.
+#![tactic(auto)]
+
 ghost use Rattle.std.specs.Prelude.{◌≡◌, length, replicate};
 
 // A number that memory is cleared with.

@@ -1,4 +1,6 @@
 // The listing of a table: its text, written from the bytes of a slot.
+#![tactic(auto)]
+
 mod listing;
 mod sink;
 mod text;

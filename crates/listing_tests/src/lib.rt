@@ -1,3 +1,5 @@
+#![tactic(auto)]
+
 // Tests of listings.
 #[cfg(test)]
 mod tests {

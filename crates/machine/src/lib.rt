@@ -1,4 +1,6 @@
 // What a machine answers, and what every make of machine owes.
+#![tactic(auto)]
+
 mod by_reference;
 mod guard;
 mod making;

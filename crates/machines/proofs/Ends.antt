@@ -1,10 +1,10 @@
 -- What a run answers.
-use Rattle.std.proofs.Common.{◌≡◌, ℕ, ◌<◌, ◌≤◌, Bool, true, List, [], ◌∷◌, length, get_or, Some, None, Ok, Err, Option, sym, refl, ap, ◌∙◌, subst, arith}
+use Rattle.std.proofs.Common.{◌≡◌, ℕ, ◌<◌, ◌≤◌, Bool, List, [], ◌∷◌, length, get_or, Some, None, Ok, Err, Option, sym, refl, ap, ◌∙◌, subst, arith}
 use Rattle.std.proofs.lemmas.Bool.{ltb-true}
 use Rattle.trees.specs.declared.shape.Shape.{Shape}
 use Rattle.trees.specs.declared.refusal.Refusal.{Refusal}
 use Rattle.trees.specs.Trees.{Tree, leaf, inner}
-use Rattle.trees.specs.Reading.{first_refusal, outcome, stack_need, Stacked, Reads, Answers}
+use Rattle.trees.specs.Reading.{first_refusal, outcome, stack_need, Reads, Answers}
 use Rattle.trees.specs.Parts.{places}
 use Rattle.trees.proofs.Splits.{read_tree}
 use Rattle.automata.specs.Automata.{Automaton, code}

@@ -1,5 +1,5 @@
 -- What a slot answers to an inner step: idle, outside its questions, and inside.
-use Rattle.std.proofs.Common.{◌≡◌, ℕ, ◌<◌, Bool, true, false, cond, T, List, get_or, sym, refl, ap, ◌∙◌, subst, arith}
+use Rattle.std.proofs.Common.{◌≡◌, ℕ, ◌<◌, Bool, true, false, cond, T, List, get_or, sym, refl, ap, subst, arith}
 use Rattle.trees.specs.declared.shape.Shape.{Shape}
 use Rattle.trees.specs.Shapes.{InnerLabel, Marks}
 use Rattle.automata.specs.Atoms.{inner_asked}

@@ -1,4 +1,6 @@
 // Machines: the table in a slot, and the run of any machine over a listing.
+#![tactic(auto)]
+
 mod cell;
 mod running;
 mod slot_table;

@@ -1,5 +1,5 @@
 -- Trees with an odd number of leaves.
-use Rattle.std.specs.Prelude.{ℕ, ◌+◌, ◌%◌, ◌^◌, ◌<◌, ◌≤◌, Bool, nat_eq}
+use Rattle.std.specs.Prelude.{◌+◌, ◌%◌, nat_eq}
 use Rattle.std.proofs.Common.{arith, lit≤}
 use Rattle.trees.specs.declared.shape.Shape.{Shape}
 use Rattle.automata.specs.Automata.{Automaton, Lawful}

@@ -1,4 +1,6 @@
 // A machine made outside the library, and tests of machines and layers.
+#![tactic(auto)]
+
 mod parity;
 
 pub use parity::Parity;

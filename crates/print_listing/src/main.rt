@@ -1,4 +1,6 @@
 // Writes the listing of a small rule: exactly one node is in track 0, over trees with one leaf label and one inner label.
+#![tactic(auto)]
+
 ghost use Rattle.std.specs.Prelude.{◌≤◌, length, Ok, Err};
 
 use anyhow::anyhow;

@@ -1,6 +1,5 @@
 -- The machine of a slot is right by the log.
 use Rattle.std.proofs.Common.{◌≡◌, ℕ, T, ◌↔◌, List, None, sym, subst}
-use Rattle.trees.specs.Trees.{Tree, Shaped}
 use Rattle.automata.specs.Automata.{Automaton, accepts}
 use Rattle.automata.specs.Rules.{Holds}
 use Rattle.racks.specs.declared.rack.Rack.{Rack}

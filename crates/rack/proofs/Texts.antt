@@ -1,19 +1,19 @@
 -- What the listing of a slot's bytes answers is the text of the call.
-use Rattle.std.proofs.Common.{◌≡◌, ℕ, ◌+◌, ◌*◌, ◌<◌, ◌≤◌, Bool, true, false, leb, List, ◌++◌, length, take, drop, Some, None, Ok, Err, Option, Result, sym, refl, ap, ◌∙◌, subst, arith, length-drop, length-take}
+use Rattle.std.proofs.Common.{◌≡◌, ℕ, ◌+◌, ◌*◌, ◌≤◌, Bool, true, false, leb, List, ◌++◌, length, take, drop, Some, None, Ok, Err, Option, Result, sym, refl, ap, ◌∙◌, subst, arith, length-drop, length-take}
 use Rattle.std.proofs.lemmas.List.{take-append-le, take_all}
 use Rattle.std.proofs.lemmas.Bool.{le-leb, lt-leb, and_from}
 use Rattle.trees.specs.declared.refusal.Reason.TheVariants.{BufferTooShort}
 use Rattle.trees.specs.declared.refusal.Refusal.{Refusal}
 use Rattle.trees.specs.Reading.{check}
-use Rattle.tables.specs.Images.{fits, width}
+use Rattle.tables.specs.Images.{fits}
 use Rattle.tables.specs.Canonical.{slot_text}
 use Rattle.listing.specs.Listings.{Listed, listable}
-use Rattle.listing.specs.declared.listing.Listing.TheVariants.{Written, Short, Unserved}
+use Rattle.listing.specs.declared.listing.Listing.TheVariants.{Written, Short}
 use Rattle.racks.specs.declared.rack.Rack.{Rack}
 use Rattle.racks.specs.Racks.{slot, slot_bytes}
 use Rattle.racks.specs.Calls.{call_list, by_rack, listed, refused}
 use Rattle.racks.specs.Log.{Log, KeptIn}
-use Rattle.racks.specs.Promises.{listed_by, ListLogged, ListedIn, Done}
+use Rattle.racks.specs.Promises.{listed_by, ListLogged, Done}
 use Rattle.racks.proofs.Dones.{done, denied}
 use Rattle.racks.proofs.Lists.{lists}
 use Rattle.racks.proofs.Passes.{limits_of}

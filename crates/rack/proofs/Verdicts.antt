@@ -1,15 +1,14 @@
 -- What a run over a slot's machine answers is the verdict of the call.
-use Rattle.std.proofs.Common.{◌≡◌, ℕ, ◌≤◌, Bool, ltb, List, length, Some, None, Ok, Err, Option, Result, sym, refl, ap, ◌∙◌, subst, arith}
+use Rattle.std.proofs.Common.{◌≡◌, ℕ, ◌≤◌, Bool, ltb, List, Ok, Err, Option, Result, refl, ◌∙◌, subst, arith}
 use Rattle.trees.specs.declared.refusal.Refusal.{Refusal}
-use Rattle.trees.specs.Trees.{Tree}
-use Rattle.trees.specs.Reading.{first_refusal, Reads}
+use Rattle.trees.specs.Reading.{first_refusal}
 use Rattle.trees.proofs.Fronts.{answers}
-use Rattle.automata.specs.Automata.{Automaton, accepts}
+use Rattle.automata.specs.Automata.{Automaton}
 use Rattle.tables.specs.SlotLaws.{slot_few}
 use Rattle.machines.specs.Runs.{Judged}
 use Rattle.racks.specs.declared.rack.Rack.{Rack}
 use Rattle.racks.specs.Racks.{slot, slot_machine}
-use Rattle.racks.specs.Calls.{call_judge, judged, refused}
+use Rattle.racks.specs.Calls.{call_judge, judged}
 use Rattle.racks.specs.Log.{Log, KeptIn}
 use Rattle.racks.specs.Promises.{judged_by, VerdictLogged, Done}
 use Rattle.racks.proofs.Dones.{done, denied}

@@ -1,4 +1,6 @@
 // The rack: tables of rules in the slots of a lent store, and the calls on them.
+#![tactic(auto)]
+
 mod emptying;
 mod making;
 mod reading;

@@ -3,7 +3,7 @@ use Rattle.std.proofs.Common.{◌≡◌, ℕ, List, ◌∷◌, Some, sym, refl, 
 use Rattle.racks.specs.declared.rack.Rack.{Rack}
 use Rattle.trees.specs.declared.refusal.Refusal.{Refusal}
 use Rattle.racks.specs.Calls.{Call, Outcome, refused, due, Effect, store_after}
-use Rattle.racks.specs.Log.{Log, entry, KeptIn, called}
+use Rattle.racks.specs.Log.{entry, KeptIn, called}
 use Rattle.racks.specs.Promises.{Done}
 
 pub done : (R : Rack) (c : Call) (before after : List ℕ) (o : Outcome) → Effect R before c o → after ≡ store_after before o → Done R c before after o

@@ -1,5 +1,5 @@
 -- A verdict tells whether the logged rule holds of the tree that was read.
-use Rattle.std.proofs.Common.{◌≡◌, ℕ, Bool, T, ltb, ◌↔◌, List, sym, subst}
+use Rattle.std.proofs.Common.{ℕ, Bool, T, ltb, ◌↔◌, List, sym, subst}
 use Rattle.trees.specs.Trees.{Tree}
 use Rattle.trees.specs.Reading.{Reads}
 use Rattle.automata.specs.Rules.{Rule, Holds}

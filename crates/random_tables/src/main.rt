@@ -1,5 +1,7 @@
 // Compares built tables with brute force: of random machines byte for byte, and of random rules by the verdicts on random
 // trees. Every run draws the same cases; a mismatch would change what is printed.
+#![tactic(auto)]
+
 mod brute;
 mod built;
 mod fault;

@@ -1,4 +1,6 @@
 // Slots: where the bytes of a table stand.
+#![tactic(auto)]
+
 mod layout;
 
 pub use layout::Layout;

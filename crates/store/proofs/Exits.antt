@@ -1,5 +1,5 @@
 -- The exits of checks.
-use Rattle.std.proofs.Common.{◌≡◌, ℕ, IsErrAnd, Some, Ok, Err, Option, Result, sym, ap, ◌∙◌, subst, MatchResult}
+use Rattle.std.proofs.Common.{◌≡◌, IsErrAnd, Some, Err, Option, Result, sym, ap, ◌∙◌, subst}
 use Rattle.std.proofs.lemmas.Result.{err_from_is_err_and}
 use Rattle.trees.specs.declared.refusal.Refusal.{Refusal}
 use Rattle.store.specs.Checks.{Checked}

@@ -1,10 +1,10 @@
 -- How wide a slot is, and where it begins and ends.
-use Rattle.std.proofs.Common.{◌≡◌, ℕ, suc, ◌+◌, ◌-◌, ◌*◌, ◌^◌, ◌<◌, ◌≤◌, true, ◌&&◌, leb, List, ◌++◌, take, drop, sym, refl, ap, ◌∙◌, mul-le-mul_right, arith, drop-drop, pow_mono}
+use Rattle.std.proofs.Common.{◌≡◌, ℕ, suc, ◌+◌, ◌*◌, ◌^◌, ◌<◌, ◌≤◌, true, ◌&&◌, leb, List, ◌++◌, take, drop, ap, ◌∙◌, mul-le-mul_right, arith, drop-drop, pow_mono}
 use borrow.Rule.Slice.PartMut.{put_mid}
 use Rattle.std.proofs.lemmas.Nat.{mul-le}
 use Rattle.std.proofs.lemmas.Bool.{and_parts, leb-true}
 use Rattle.trees.specs.declared.shape.Shape.{Shape}
-use Rattle.trees.specs.Shapes.{limits, within, Limited}
+use Rattle.trees.specs.Shapes.{limits, within}
 use Rattle.trees.proofs.Limits.{bounds}
 use Rattle.tables.specs.Images.{width, Fits}
 use Rattle.racks.specs.declared.rack.Rack.{Rack}

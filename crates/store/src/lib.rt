@@ -1,4 +1,6 @@
 // The slots of a lent store: the checks that calls share, the machine of a slot, and bytes put in a slot.
+#![tactic(auto)]
+
 mod checks;
 mod slot;
 

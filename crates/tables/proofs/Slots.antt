@@ -3,8 +3,7 @@ use Rattle.std.proofs.Common.{◌≡◌, ℕ, ◌+◌, ◌^◌, ◌<◌, ◌≤�
 use mathlib.Core.Path.{fun_ext}
 use Rattle.std.proofs.lemmas.Bool.{lt-ltb, cond-true}
 use Rattle.trees.specs.declared.shape.Shape.{Shape}
-use Rattle.trees.specs.Trees.{Tree, Shaped}
-use Rattle.automata.specs.Automata.{Automaton, Lawful, accepts}
+use Rattle.automata.specs.Automata.{Automaton, Lawful}
 use Rattle.automata.specs.Atoms.{guarded, leaf_asked, inner_asked}
 use Rattle.automata.specs.Numbering.{Table, Question, at_leaf, at_inner, answer, Over, own_table, CodesAreStates}
 use Rattle.automata.proofs.Guards.{guard_leaf, guard_inner, guard_final}
@@ -12,10 +11,10 @@ use Rattle.tables.specs.Tables.{SameTable, Closed, TableOf, AcceptSame, table_au
 use Rattle.tables.specs.Images.{Image, states_of, kept, leaf_address, inner_address, fits}
 use Rattle.tables.specs.Slots.{answering, slot_automaton, slot_table}
 use Rattle.tables.specs.SlotLaws.{fits_facts, slot_lawful}
-use Rattle.tables.specs.Texts.{table_text, Small}
+use Rattle.tables.specs.Texts.{Small}
 use Rattle.tables.specs.Canonical.{slot_text, TableIn, CanonicalSlot}
 use Rattle.tables.proofs.Flags.{one_if_eqb}
-use Rattle.tables.proofs.SameTables.{same_sym, same_trans, same_table_of}
+use Rattle.tables.proofs.SameTables.{same_sym, same_table_of}
 use Rattle.tables.proofs.TableRuns.{closed, same_accepts}
 use Rattle.tables.proofs.OwnTables.{own_table_of, reached_lt}
 use Rattle.tables.proofs.TableStates.{table_states, some_state, fewest}

@@ -1,4 +1,6 @@
 // Tables of automata: what a table says of its automaton, how it is found, and how it is written down.
+#![tactic(auto)]
+
 ghost use Rattle.tables.specs.Theorems.{TablesAccept, Canonical, TableOfTable, FewestStates, AtomTables};
 ghost use Rattle.tables.specs.Theorems.{Exploring, Refining, Building, ImagesHold, SlotsHold, TextsTell};
 ghost use Rattle.tables.specs.Examples.{TableExamples};

@@ -1,6 +1,6 @@
 -- Children and what hangs below a node.
 use Rattle.std.proofs.Common.{◌≡◌, ℕ, ◌⊎◌, ◌↔◌, sym, refl, ap, subst, inl, inr}
-use Rattle.trees.specs.Trees.{Tree, leaf, inner}
+use Rattle.trees.specs.Trees.{Tree, inner}
 use Rattle.trees.specs.Nodes.{Node, root, left, right, part, IsRoot, LeftChild, RightChild, ProperlyBelow}
 
 root_part : {t : Tree} (p : Node t) → IsRoot p → part p ≡ t

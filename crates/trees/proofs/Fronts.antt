@@ -1,19 +1,17 @@
 -- A refusal at a node names the first node with which no listing goes on.
-use Rattle.std.proofs.Common.{◌≡◌, ℕ, zero, suc, ◌+◌, ◌-◌, ◌*◌, ◌%◌, ◌^◌, ◌<◌, ◌≤◌, Bool, true, false, cond, not, ◌&&◌, ◌||◌, eqb, ltb, leb, ◌↔◌, List, [], ◌∷◌, ◌++◌, length, take, Some, None, Option, sym, refl, ap, ◌∙◌, subst, append_assoc, append-nil, arith, pow_pos}
-use Rattle.std.proofs.lemmas.Bool.{leb-true, le-leb, eq-eqb, and_parts, and_from, cond-true, cases_Bool}
+use Rattle.std.proofs.Common.{◌≡◌, ℕ, zero, suc, ◌+◌, ◌*◌, ◌%◌, ◌^◌, ◌≤◌, Bool, true, false, not, ◌&&◌, ◌||◌, eqb, ltb, leb, List, [], ◌∷◌, ◌++◌, length, take, Some, None, Option, sym, refl, ap, ◌∙◌, subst, append_assoc, append-nil, arith, pow_pos}
+use Rattle.std.proofs.lemmas.Bool.{leb-true, le-leb, eq-eqb, and_parts, and_from}
 use Rattle.std.proofs.lemmas.List.{length-append}
 use Rattle.trees.specs.declared.shape.Shape.{Shape}
 use Rattle.trees.specs.declared.refusal.Refusal.{Refusal}
-use Rattle.trees.specs.declared.refusal.Reason.{Reason}
 use Rattle.trees.specs.declared.refusal.Reason.TheVariants.{BadLength, UnknownLabel, UnknownMarks, MissingParts, StackFull, NotOneTree}
-use Rattle.trees.specs.Refusals.{number}
 use Rattle.trees.specs.Shapes.{labels, Limited}
-use Rattle.trees.specs.Trees.{Tree, leaf, inner, Shaped, listing, size}
+use Rattle.trees.specs.Trees.{Tree, leaf, inner, listing}
 use Rattle.trees.specs.Stacks.{grown}
-use Rattle.trees.specs.Reading.{check, or_else, node_refusal, opened, rest_refusal, first_refusal, Stacked, GoesOn, front, AtNode, Stops, Reads, Answers, refusal}
+use Rattle.trees.specs.Reading.{check, or_else, node_refusal, opened, rest_refusal, first_refusal, GoesOn, front, AtNode, Stops, Reads, Answers, refusal}
 use Rattle.trees.proofs.Limits.{bounds}
 use Rattle.trees.proofs.Turns.{passed, fine, grown_length, opened_pos}
-use Rattle.trees.proofs.Listed.{Above, above_join, spelled, Held, held_grown, spelled_grown, read_listing, listed, one_tree}
+use Rattle.trees.proofs.Listed.{above_join, spelled, Held, held_grown, spelled_grown, read_listing, listed, one_tree}
 
 -- the first n + 1 nodes begin with a node
 front_more : (n a m : ℕ) (bs : List ℕ) → front (suc n) (a ∷ m ∷ bs) ≡ a ∷ m ∷ front n bs

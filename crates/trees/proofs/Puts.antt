@@ -1,5 +1,5 @@
 -- A set put in a track: the tree stays of the shape, and at each node only that track's mark changes, to the set.
-use Rattle.std.proofs.Common.{◌≡◌, ℕ, ◌<◌, Bool, ◌≢◌, refl, ap}
+use Rattle.std.proofs.Common.{◌≡◌, ℕ, ◌<◌, ◌≢◌, refl, ap}
 use Rattle.trees.specs.declared.shape.Shape.{Shape}
 use Rattle.trees.specs.Trees.{Tree, leaf, inner, Shaped, label, marks}
 use Rattle.trees.specs.Nodes.{Node, root, left, right, Nodes, part, bit, put_bit, put, moved}

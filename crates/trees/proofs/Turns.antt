@@ -1,10 +1,10 @@
 -- One node more is read.
-use Rattle.std.proofs.Common.{◌≡◌, ℕ, ◌+◌, ◌-◌, ◌^◌, ◌<◌, ◌≤◌, Bool, true, false, cond, not, ◌||◌, ltb, leb, List, [], ◌∷◌, length, get_or, drop, Some, None, Option, sym, refl, ap, ◌∙◌, arith}
+use Rattle.std.proofs.Common.{◌≡◌, ℕ, ◌+◌, ◌-◌, ◌^◌, ◌<◌, ◌≤◌, Bool, true, false, cond, not, ◌||◌, ltb, List, [], ◌∷◌, length, get_or, drop, None, Option, sym, refl, ap, ◌∙◌, arith}
 use Rattle.std.proofs.lemmas.Bool.{leb-true, ltb-true}
 use Rattle.trees.specs.declared.shape.Shape.{Shape}
 use Rattle.trees.specs.declared.refusal.Refusal.{Refusal}
 use Rattle.trees.specs.Shapes.{labels}
-use Rattle.trees.specs.Trees.{Tree, leaf, inner}
+use Rattle.trees.specs.Trees.{Tree, leaf}
 use Rattle.trees.specs.Stacks.{under, grown, parts}
 use Rattle.trees.specs.Reading.{check, or_else, node_refusal, opened, rest_refusal}
 

@@ -1,8 +1,7 @@
 -- What the definitions of nodes, sets and the reading come to: laws, and worked examples.
-use Rattle.std.specs.Prelude.{◌≡◌, ℕ, ◌*◌, ◌<◌, Bool, ◌≢◌, ◌⊎◌, ◌↔◌, List, [], ◌∷◌, map, length, Some, None, Option, nat_lt}
+use Rattle.std.specs.Prelude.{◌≡◌, ℕ, ◌*◌, ◌<◌, ◌≢◌, ◌⊎◌, ◌↔◌, [], ◌∷◌, map, length, Some, None, nat_lt}
 use Rattle.trees.specs.declared.shape.Shape.{Shape}
 use Rattle.trees.specs.declared.refusal.Reason.TheVariants.{BadLength, UnknownLabel, UnknownMarks, MissingParts, NotOneTree}
-use Rattle.trees.specs.declared.refusal.Refusal.{Refusal}
 use Rattle.trees.specs.Trees.{Tree, inner, Shaped, listing, size, label, marks}
 use Rattle.trees.specs.Nodes.{Node, part, bit, LeftChild, RightChild, ProperlyBelow, Nodes, put, moved}
 use Rattle.trees.specs.Reading.{refusal, first_refusal}

@@ -1,4 +1,6 @@
 // Marked trees: their shape, what a refusal says, and the one reader of listings.
+#![tactic(auto)]
+
 mod fold;
 mod laws;
 mod parts;

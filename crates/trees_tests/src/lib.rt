@@ -1,3 +1,5 @@
+#![tactic(auto)]
+
 // Tests of the reading at its edges.
 #[cfg(test)]
 mod tests {

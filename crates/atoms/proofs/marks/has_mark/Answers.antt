@@ -1,4 +1,4 @@
-use Rattle.std.proofs.Common.{◌^◌, ◌<◌, ◌≤◌, sym, refl, ◌∙◌, arith, rules}
+use Rattle.std.proofs.Common.{refl, arith, rules}
 use Rattle.trees.specs.Nodes.{bit}
 use Rattle.trees.proofs.Bits.{bit_none}
 use Rattle.atoms.proofs.marks.has_mark.Goals as goal

@@ -1,5 +1,5 @@
 -- The image in the cells is the table for the rack.
-use Rattle.std.proofs.Common.{sym, arith}
+use Rattle.std.proofs.Common.{arith}
 use Rattle.filling.proofs.Made.{lent_enough, made_table}
 use Rattle.filling.proofs.builds.build_in.Goals as goal
 

@@ -1,9 +1,8 @@
 -- The checks, the atom's own, and the table in its slot.
-use Rattle.std.proofs.Common.{◌≡◌, refl, ◌∙◌, arith}
+use Rattle.std.proofs.Common.{refl, arith}
 use Rattle.trees.specs.Reading.{or_else}
-use Rattle.automata.specs.Rules.{Atom}
 use Rattle.atoms.specs.Making.{asked, atom_refusal}
-use Rattle.racks.specs.Calls.{Call, call_atom, check_lent}
+use Rattle.racks.specs.Calls.{call_atom, check_lent}
 use Rattle.racks.specs.Promises.{lent}
 use Rattle.filling.proofs.Ends.{denied, atom_not_built, atom_placed}
 use Rattle.filling.proofs.fills.fill_atom.Goals as goal

@@ -1,5 +1,5 @@
 -- The checks, the complement, and the table in its slot.
-use Rattle.std.proofs.Common.{◌≡◌, refl, ap, ◌∙◌, arith}
+use Rattle.std.proofs.Common.{refl, ap, ◌∙◌, arith}
 use Rattle.automata.specs.Automata.{Automaton}
 use Rattle.automata.specs.Layers.{not_layer}
 use Rattle.racks.specs.Racks.{slot_machine}

@@ -1,5 +1,5 @@
 -- The checks, the projection, and the table in its slot.
-use Rattle.std.proofs.Common.{◌≡◌, ltb, sym, refl, ap, ◌∙◌, subst, arith}
+use Rattle.std.proofs.Common.{ltb, sym, refl, ap, ◌∙◌, subst, arith}
 use Rattle.trees.specs.declared.refusal.Reason.TheVariants.{NoSuchTrack}
 use Rattle.trees.specs.Shapes.{Limited}
 use Rattle.trees.specs.Reading.{check}

@@ -1,5 +1,5 @@
 -- The checks, the shapes compared, and the table in its slot.
-use Rattle.std.proofs.Common.{◌≡◌, Bool, Some, sym, refl, ap, ◌∙◌, arith}
+use Rattle.std.proofs.Common.{Bool, Some, sym, refl, ap, ◌∙◌, arith}
 use Rattle.trees.specs.declared.shape.Shape.{Shape}
 use Rattle.trees.specs.declared.refusal.Reason.TheVariants.{ShapesDiffer}
 use Rattle.trees.specs.declared.refusal.Refusal.{Refusal}

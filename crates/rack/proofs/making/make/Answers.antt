@@ -1,5 +1,5 @@
 -- The rack of the shape that was made is the rack of the numbers.
-use Rattle.std.proofs.Common.{◌≡◌, sym, ◌∙◌, rules}
+use Rattle.std.proofs.Common.{rules}
 use Rattle.racks.specs.Promises.{rack_of}
 use Rattle.racks.proofs.Guarantees.{guarantee}
 use Rattle.rack.proofs.Made.{made_rack, shape_made, rack_made, unmade}

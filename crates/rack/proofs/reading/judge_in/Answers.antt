@@ -1,5 +1,5 @@
 -- The checks, and the run over the slot's machine.
-use Rattle.std.proofs.Common.{◌≡◌, Bool, ltb, length, Result, sym, subst, lit≤}
+use Rattle.std.proofs.Common.{Bool, ltb, length, Result, sym, subst, lit≤}
 use Rattle.trees.specs.declared.refusal.Refusal.{Refusal}
 use Rattle.trees.specs.Reading.{first_refusal}
 use Rattle.racks.specs.Calls.{call_judge}

@@ -1,5 +1,5 @@
 -- The checks, and the listing of the slot's bytes.
-use Rattle.std.proofs.Common.{◌≡◌, ℕ, leb, List, length, None, Result, sym, refl, ap, ◌∙◌, subst}
+use Rattle.std.proofs.Common.{ℕ, leb, List, length, None, Result, sym, refl, subst}
 use Rattle.trees.specs.declared.refusal.Reason.TheVariants.{BufferTooShort}
 use Rattle.trees.specs.declared.refusal.Refusal.{Refusal}
 use Rattle.trees.specs.Reading.{check}

@@ -1,5 +1,5 @@
 -- A slot's bytes by the layout, at the largest numbers.
-use Rattle.std.proofs.Common.{◌≡◌, ℕ, ◌≤◌, sym, ap, ◌∙◌, subst}
+use Rattle.std.proofs.Common.{ℕ, ◌≤◌, sym, ap, ◌∙◌, subst}
 use Rattle.slots.specs.declared.layout.Layout.{Layout}
 use Rattle.tables.specs.Images.{Fits}
 use Rattle.tables.specs.Images as images

@@ -1,5 +1,5 @@
 -- The part is the slot.
-use Rattle.std.proofs.Common.{◌≡◌, ℕ, ◌+◌, ◌-◌, take, drop, ap, ◌∙◌, ap₂, arith}
+use Rattle.std.proofs.Common.{◌≡◌, ℕ, ◌+◌, ◌-◌, take, drop, ◌∙◌, ap₂, arith}
 use Rattle.store.proofs.slot.slot_part.Goals as goal
 
 pub returns : goal.returns

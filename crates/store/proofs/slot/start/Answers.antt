@@ -1,5 +1,5 @@
 -- The slot ends inside the store.
-use Rattle.std.proofs.Common.{ℕ, ◌*◌, ◌≤◌, ap, arith}
+use Rattle.std.proofs.Common.{ℕ, ◌*◌, ap}
 use Rattle.store.proofs.Widths.{slot_room}
 use Rattle.store.proofs.slot.start.Goals as goal
 

@@ -1,4 +1,4 @@
-use Rattle.std.proofs.Common.{◌≡◌, ℕ, ◌+◌, ◌*◌, ◌≤◌, List, [], length}
+use Rattle.std.proofs.Common.{◌≡◌, ◌+◌, ◌*◌, ◌≤◌, List, [], length}
 use Rattle.trees.specs.Trees.{Tree}
 use Rattle.trees.specs.Stacks.{parts}
 use Rattle.trees.specs.Reading.{rest_refusal}

@@ -1,5 +1,5 @@
 -- A question inside shape and count has an address.
-use Rattle.std.proofs.Common.{◌≡◌, ℕ, ◌<◌, Bool, true, false, get_or, sym, ap, ◌∙◌, subst}
+use Rattle.std.proofs.Common.{ℕ, ◌<◌, get_or, sym, ap, ◌∙◌, subst}
 use Rattle.trees.specs.Shapes.{InnerLabel, Marks}
 use Rattle.automata.specs.Atoms.{inner_asked}
 use Rattle.slots.specs.declared.layout.Layout.{Layout}

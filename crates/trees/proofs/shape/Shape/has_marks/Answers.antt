@@ -1,4 +1,4 @@
-use Rattle.std.proofs.Common.{◌^◌, ◌<◌, ◌≤◌, sym, ◌∙◌, arith, pow_mono, lt-ltb, le-leb}
+use Rattle.std.proofs.Common.{◌^◌, ◌≤◌, sym, ◌∙◌, arith, pow_mono, lt-ltb, le-leb}
 use Rattle.trees.proofs.shape.Shape.has_marks.Goals as goal
 
 -- a byte has no bit past its eighth
