@@ -6,14 +6,14 @@ mod brute;
 mod built;
 mod fault;
 mod formula;
+mod machine_cases;
 mod random;
 mod small_tree;
-mod tables;
 mod verdicts;
 
 use fault::Fault;
+use machine_cases::try_machines;
 use random::Random;
-use tables::try_machines;
 use verdicts::try_verdicts;
 
 fn show_machines(rt: &HostRuntime) -> Result<(), Fault> {
