@@ -3,6 +3,8 @@
 
 usage: python3 tools/snake_names.py     at the top of the repository, once, after the kit's port.py
 
+It stops where specs/ has none of the old names: a second run would turn step names of proofs that look like them.
+
 Whole names alone are replaced. Functions of src/, strings, inputs and outputs keep their names: no name here is one of Rust's.
 """
 
@@ -10,8 +12,9 @@ import glob
 import os
 import re
 
-# a dash becomes an underscore in each of these
+# a dash becomes an underscore in each of these; the first five are parameters
 PLAIN = """
+from-l from-r i-first past-l with-last
 above-left above-right absent-is accept-same accept-same-sym accept-untold add-above add-lt add-other address-inj address-lt agree-agreed
 agree-equivalence agreed-agree agreed-equivalence agreed-numbering alike-agree alike-in alike-numbered alike-untold all-at all-below all-bools
 all-count all-empty all-zeros always-served and-iff and-out and-twice answer-is answered-by answers-reached any-in any-is apart-accepts apart-code
@@ -95,7 +98,18 @@ def turn_source(text):
     return "".join(out) + turn(text[at:])
 
 
+def is_turned():
+    for p in glob.glob("crates/*/specs/*.antt"):
+        with open(p, encoding="utf-8") as f:
+            if any(m[0] in NAMES for m in TOKEN.finditer(f.read())):
+                return False
+    return True
+
+
 def main():
+    if is_turned():
+        print("nothing to turn")
+        return
     paths = [p for end in ("antt", "rt") for p in glob.glob(f"crates/**/*.{end}", recursive=True)]
     paths += ["README.md"] + glob.glob("docs/*.md")
     for p in sorted(paths):

@@ -1,7 +1,7 @@
 -- What each make of machine means: the automaton of its atom, whatever numbers it holds.
 -- Words:
 --   inclusion, labelled    the atom that a rule on each node is
---   .. -meaning            the automaton that a machine of that make is
+--   .. _meaning            the automaton that a machine of that make is
 use Rattle.automata.specs.Automata.{Automaton}
 use Rattle.automata.specs.Rules.{Atom, sub, lab, sing, left_of, right_of, below}
 use Rattle.automata.specs.Atoms.{atom_automaton}

@@ -61,16 +61,16 @@ lab_automaton sh i b = every_automaton sh 2 (lab_bad i b)
 
 -- of two leaves with one mark each the one with the smaller mark is met first; a lone i is dead, a lone j waits
 abbrev pub number : Bool → Standing → ℕ
-number i-first Neither = 0
-number i-first Waiting = cond i-first 2 1
-number i-first Done = 3
-number i-first Dead = cond i-first 1 2
+number i_first Neither = 0
+number i_first Waiting = cond i_first 2 1
+number i_first Done = 3
+number i_first Dead = cond i_first 1 2
 
 abbrev pub standing : Bool → ℕ → Standing
-standing i-first zero = Neither
-standing i-first (suc zero) = cond i-first Dead Waiting
-standing i-first (suc (suc zero)) = cond i-first Waiting Dead
-standing i-first (suc (suc (suc n))) = Done
+standing i_first zero = Neither
+standing i_first (suc zero) = cond i_first Dead Waiting
+standing i_first (suc (suc zero)) = cond i_first Waiting Dead
+standing i_first (suc (suc (suc n))) = Done
 
 -- two parts side by side
 abbrev pub beside : Standing → Standing → Standing
@@ -135,9 +135,9 @@ right_step true true x y = Dead
 
 -- with the answers to "is i = j" and "is i < j" apart
 abbrev pub standings_automaton : Bool → Bool → Step → Shape → ℕ → ℕ → Automaton
-standings_automaton same i-first step sh i j = guarded sh (cond same 1 4)
-    (λ a m. cond same 0 (number i-first (leaf_standing (bit i m) (bit j m))))
-    (λ a m x y. cond same 0 (number i-first (step (bit i m) (bit j m) (standing i-first x) (standing i-first y))))
+standings_automaton same i_first step sh i j = guarded sh (cond same 1 4)
+    (λ a m. cond same 0 (number i_first (leaf_standing (bit i m) (bit j m))))
+    (λ a m x y. cond same 0 (number i_first (step (bit i m) (bit j m) (standing i_first x) (standing i_first y))))
     (λ x. nat_eq x 3)
 
 abbrev pub ones_automaton : Step → Shape → ℕ → ℕ → Automaton

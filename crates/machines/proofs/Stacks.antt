@@ -20,8 +20,8 @@ module _ {V : Type 0} (value : V → ℕ) (limit : ℕ) (M : Automaton) (law : L
   pub inner_joined : (xs : List V) (l r : Tree) (ts : List Tree) (h a m x y z : ℕ) (u w v : V) → length ts + 2 ≡ h
       → x ≡ value (get_or xs (h - 2) u) → y ≡ value (get_or xs (h - 1) w) → z ≡ M.inner_step a m x y → (z < limit → value v ≡ z)
       → Codes xs (r ∷ l ∷ ts) → Codes (set xs (h - 2) v) (inner a m l r ∷ ts)
-  inner_joined xs l r ts h a m x y z u w v e from-l from-r is put held fit =
-      let left : x ≡ code M l = from-l ∙ value_left Has xs l r ts h e (held fit) u in
-      let right : y ≡ code M r = from-r ∙ value_right Has xs l r ts h e (held fit) w in
+  inner_joined xs l r ts h a m x y z u w v e from_l from_r is put held fit =
+      let left : x ≡ code M l = from_l ∙ value_left Has xs l r ts h e (held fit) u in
+      let right : y ≡ code M r = from_r ∙ value_right Has xs l r ts h e (held fit) w in
       let step : z ≡ code M (inner a m l r) = is ∙ ap₂ (λ (p q : ℕ). M.inner_step a m p q) left right in
       values_join Has xs l r ts h e (held fit) (inner a m l r) v (put (omega (arith, step, law.inner_in a m (code M l) (code M r))) ∙ step)

@@ -23,14 +23,14 @@ module _ (R : ℕ → ℕ → Type 0) (eq : Equivalence R) (f g : ℕ → ℕ) (
 
   -- the indices before n keep their numbers, so what is to be shown is how n stands to them
   pairs : ((x : ℕ) → x < n → (g x ≡ g n) ↔ R x n) → (x y : ℕ) → x < suc n → y < suc n → (g x ≡ g y) ↔ R x y
-  pairs with-last x y h p = go (cases_lt x n) (cases_lt y n)
+  pairs with_last x y h p = go (cases_lt x n) (cases_lt y n)
     where
       go : (x < n) ⊎ (n ≤ x) → (y < n) ⊎ (n ≤ y) → (g x ≡ g y) ↔ R x y
       go (inl l) (inl m) = ((λ v. (nu.same x y l m).0 (sym (kept x l) ∙ (v ∙ kept y m))), λ v. kept x l ∙ ((nu.same x y l m).1 v ∙ sym (kept y m)))
-      go (inl l) (inr m) = subst (λ (v : ℕ). (g x ≡ g v) ↔ R x v) (last y p m) (with-last x l)
+      go (inl l) (inr m) = subst (λ (v : ℕ). (g x ≡ g v) ↔ R x v) (last y p m) (with_last x l)
       go (inr l) (inl m) =
           subst (λ (v : ℕ). (g v ≡ g y) ↔ R v y) (last x h l)
-          ((λ v. eq.turn y n ((with-last y m).0 (sym v))), λ v. sym ((with-last y m).1 (eq.turn n y v)))
+          ((λ v. eq.turn y n ((with_last y m).0 (sym v))), λ v. sym ((with_last y m).1 (eq.turn n y v)))
       go (inr l) (inr m) =
           let w : x ≡ y = sym (last x h l) ∙ last y p m in
           ((λ _. subst (R x) w (eq.same x)), λ _. ap g w)

@@ -62,7 +62,7 @@ module _ (sh : Shape) (room : ℕ → Bool) where
       go : (b : Bool) → ltb p (stack_need l) ≡ b → room (n + p) ≡ true
       go true e = f p (ltb-true p (stack_need l) e)
       go false e =
-          let past-l : stack_need l ≤ p = ltb-false p (stack_need l) e in
+          let past_l : stack_need l ≤ p = ltb-false p (stack_need l) e in
           let one : 1 ≤ p = omega (arith, need_pos l) in
           subst (λ (x : ℕ). room x ≡ true) (omega arith) (g (p - 1) (omega arith))
         where
