@@ -3,7 +3,7 @@
 
 ghost use Rattle.std.specs.Prelude.{◌≡◌, length, replicate};
 
-// A number that memory is cleared with.
+// A number that memory is cleared with. `Default` says what holds of its value, and not which it is.
 pub trait Zero: Copy {
     ghost null: { Self };
 
@@ -35,14 +35,6 @@ impl Zero for u64 {
     }
 }
 
-fn wipe<T: Zero>(cells: &mut [T])
-    ensures { cells.new ≡ replicate (length cells.old) T.Zero.null }
-{
-    for cell in cells.iter_mut() {
-        *cell = T::zero();
-    }
-}
-
 // A lent slice that is all zeros once the guard is let go. Work goes through `cells`.
 pub struct Cleared<'a, T: Zero> {
     pub cells: &'a mut [T],
@@ -52,7 +44,8 @@ impl<T: Zero> Drop for Cleared<'_, T> {
     fn drop(self)
         ensures { self.exit.0.now ≡ replicate (length self.entry.cells.now) T.Zero.null }
     {
-        wipe(self.cells);
+        let zero = T::zero();
+        self.cells.fill_with(move || zero);
         let Cleared { cells: _ } = self;
     }
 }
