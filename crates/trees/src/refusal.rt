@@ -1,32 +1,30 @@
 // Why a call is refused: the reason, the place, and the layer where the refusal arose.
-ghost use Rattle.std.specs.Prelude.{◌≡◌, ◌==◌};
+ghost use Rattle.std.specs.Prelude.{◌≡◌};
 ghost use Rattle.trees.specs.Refusals.{number};
-ghost use Rattle.std.specs.Cmp.Rules.{comparing};
-ghost use Rattle.std.proofs.Common.{rules};
-ghost use Rattle.std.specs.Cmp as Keys;
 
 use std::fmt;
 
-#[derive(Clone, Copy, Debug)]
+// Each reason has its number.
+#[derive(PartialEq, Eq, Clone, Copy, Debug)]
 pub enum Reason {
-    OutsideLimits,
-    StoreTooShort,
-    NoSuchSlot,
-    SlotTaken,
-    SlotEmpty,
-    NoSuchTrack,
-    NoSuchLabel,
-    MemoryTooShort,
-    TooManyStates,
-    BufferTooShort,
-    ShapesDiffer,
-    CountTooLarge,
-    BadLength,
-    UnknownLabel,
-    UnknownMarks,
-    MissingParts,
-    StackFull,
-    NotOneTree,
+    OutsideLimits = 1,
+    StoreTooShort = 2,
+    NoSuchSlot = 3,
+    SlotTaken = 4,
+    SlotEmpty = 5,
+    NoSuchTrack = 6,
+    NoSuchLabel = 7,
+    MemoryTooShort = 8,
+    TooManyStates = 9,
+    BufferTooShort = 10,
+    ShapesDiffer = 11,
+    CountTooLarge = 12,
+    BadLength = 13,
+    UnknownLabel = 14,
+    UnknownMarks = 15,
+    MissingParts = 16,
+    StackFull = 17,
+    NotOneTree = 18,
 }
 
 #[derive(Clone, Copy, PartialEq, Eq, Debug)]
@@ -48,80 +46,43 @@ impl Reason {
     pub fn number(self) -> u8
         ensures { result ≡ number self }
     {
-        match self {
-            Reason::OutsideLimits => 1,
-            Reason::StoreTooShort => 2,
-            Reason::NoSuchSlot => 3,
-            Reason::SlotTaken => 4,
-            Reason::SlotEmpty => 5,
-            Reason::NoSuchTrack => 6,
-            Reason::NoSuchLabel => 7,
-            Reason::MemoryTooShort => 8,
-            Reason::TooManyStates => 9,
-            Reason::BufferTooShort => 10,
-            Reason::ShapesDiffer => 11,
-            Reason::CountTooLarge => 12,
-            Reason::BadLength => 13,
-            Reason::UnknownLabel => 14,
-            Reason::UnknownMarks => 15,
-            Reason::MissingParts => 16,
-            Reason::StackFull => 17,
-            Reason::NotOneTree => 18,
-        }
+        self as u8
     }
-}
-
-// Reasons are told apart by their numbers.
-impl PartialEq for Reason {
-    ghost eq = { λ x y. (number x == number y) };
-
-    ghost laws = { Keys.partial_equiv_from_equiv (Prim.search (comparing, rules)) };
-
-    fn eq(&self, other: &Reason) -> bool {
-        self.number() == other.number()
-    }
-}
-
-impl Eq for Reason {
-    ghost laws = { Prim.search (comparing, rules) };
 }
 
 impl fmt::Display for Reason {
     fn fmt<W: fmt::Write>(&self, f: &mut fmt::Formatter<W>) -> fmt::Result {
-        match self {
-            Reason::OutsideLimits => f.write_str("a number is outside its limits"),
-            Reason::StoreTooShort => f.write_str("the store is too short"),
-            Reason::NoSuchSlot => f.write_str("there is no such slot"),
-            Reason::SlotTaken => f.write_str("the result slot is taken"),
-            Reason::SlotEmpty => f.write_str("the slot is empty"),
-            Reason::NoSuchTrack => f.write_str("there is no such track"),
-            Reason::NoSuchLabel => f.write_str("there is no such label"),
-            Reason::MemoryTooShort => f.write_str("there is too little working memory"),
-            Reason::TooManyStates => f.write_str("there are too many states"),
-            Reason::BufferTooShort => f.write_str("the answer buffer is too short"),
-            Reason::ShapesDiffer => f.write_str("the shapes differ"),
-            Reason::CountTooLarge => f.write_str("the count is too large"),
-            Reason::BadLength => f.write_str(
+        f.write_str(match self {
+            Reason::OutsideLimits => "a number is outside its limits",
+            Reason::StoreTooShort => "the store is too short",
+            Reason::NoSuchSlot => "there is no such slot",
+            Reason::SlotTaken => "the result slot is taken",
+            Reason::SlotEmpty => "the slot is empty",
+            Reason::NoSuchTrack => "there is no such track",
+            Reason::NoSuchLabel => "there is no such label",
+            Reason::MemoryTooShort => "there is too little working memory",
+            Reason::TooManyStates => "there are too many states",
+            Reason::BufferTooShort => "the answer buffer is too short",
+            Reason::ShapesDiffer => "the shapes differ",
+            Reason::CountTooLarge => "the count is too large",
+            Reason::BadLength =>
                 "the listing is longer than 8192 bytes or has an odd number of them",
-            ),
-            Reason::UnknownLabel => f.write_str("the node has a label that the shape lacks"),
-            Reason::UnknownMarks => f.write_str("the node has a mark that the shape lacks"),
-            Reason::MissingParts => f.write_str(
-                "the inner node has fewer than two open parts under it",
-            ),
-            Reason::StackFull => f.write_str("the stack has no free place for the leaf"),
-            Reason::NotOneTree => f.write_str("the listing does not end in exactly one tree"),
-        }
+            Reason::UnknownLabel => "the node has a label that the shape lacks",
+            Reason::UnknownMarks => "the node has a mark that the shape lacks",
+            Reason::MissingParts => "the inner node has fewer than two open parts under it",
+            Reason::StackFull => "the stack has no free place for the leaf",
+            Reason::NotOneTree => "the listing does not end in exactly one tree",
+        })
     }
 }
 
 impl fmt::Display for Origin {
     fn fmt<W: fmt::Write>(&self, f: &mut fmt::Formatter<W>) -> fmt::Result {
-        match self {
-            Origin::Trees => f.write_str("trees"),
-            Origin::Machines => f.write_str("machines"),
-            Origin::Rack => f.write_str("rack"),
-        }
+        f.write_str(match self {
+            Origin::Trees => "trees",
+            Origin::Machines => "machines",
+            Origin::Rack => "rack",
+        })
     }
 }
 

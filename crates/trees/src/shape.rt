@@ -1,5 +1,5 @@
 // Shapes: which labels and marks the nodes of a tree may have.
-ghost use Rattle.std.specs.Prelude.{◌≡◌, ◌+◌, ◌^◌, ◌&&◌, if◌then◌else◌, Some, None, nat_lt};
+ghost use Rattle.std.specs.Prelude.{◌≡◌, ◌+◌, ◌^◌, ◌<◌, ◌&&◌, if◌then◌else◌, Some, None, nat_lt};
 ghost use Rattle.trees.specs.Shapes.{within, limits, labels};
 
 // `leaves` leaf labels from 0 on, then `inners` inner labels; `tracks` tracks from 0 on.
@@ -9,6 +9,16 @@ pub struct Shape {
     pub leaves: u8,
     pub inners: u8,
     pub tracks: u8,
+}
+
+// A count from 1 on, or none past the most.
+fn up_to(count: usize, most: usize) -> Option<u8>
+    requires { most < 256 }
+    ensures { result ≡ (if within 1 most count then Some count else None) }
+{
+    u8::try_from(count)
+        .ok()
+        .filter(|_| (1..=most).contains(&count))
 }
 
 impl Shape {
@@ -22,19 +32,10 @@ impl Shape {
     pub fn new(leaves: usize, inners: usize, tracks: usize) -> Option<Shape>
         ensures { result ≡ (if limits leaves inners tracks then Some (record { leaves = leaves; inners = inners; tracks = tracks }) else None) }
     {
-        if leaves < 1 || leaves > Self::MOST_LEAVES {
-            return None;
-        }
-        if inners < 1 || inners > Self::MOST_INNERS {
-            return None;
-        }
-        if tracks < 1 || tracks > Self::MOST_TRACKS {
-            return None;
-        }
         Some(Shape {
-            leaves: leaves as u8,
-            inners: inners as u8,
-            tracks: tracks as u8,
+            leaves: up_to(leaves, Self::MOST_LEAVES)?,
+            inners: up_to(inners, Self::MOST_INNERS)?,
+            tracks: up_to(tracks, Self::MOST_TRACKS)?,
         })
     }
 
@@ -47,6 +48,6 @@ impl Shape {
     pub fn has_marks(self, marks: u8) -> bool
         ensures { result ≡ nat_lt marks (2 ^ self.tracks) }
     {
-        self.tracks >= 8 || u16::from(marks) < 1u16 << self.tracks
+        self.tracks >= 8 || marks < 1 << self.tracks
     }
 }
