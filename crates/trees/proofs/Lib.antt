@@ -3,7 +3,7 @@ pub mod Turns
 pub mod Listed
 pub mod Fronts
 pub mod Ends
-pub mod Values
+pub mod PartValues
 pub mod Splits
 pub mod Bits
 pub mod PutBits

@@ -3,11 +3,10 @@ use Rattle.std.proofs.Common.{◌≡◌, ℕ, ◌+◌, ◌-◌, ◌*◌, ◌<◌
 use Rattle.std.proofs.lemmas.List.{length-append, get_or_at, get_or-append-add, take_at, drop_at}
 use Rattle.trees.specs.declared.shape.Shape.{Shape}
 use Rattle.trees.specs.declared.refusal.Refusal.{Refusal}
-use Rattle.trees.specs.Trees.{Tree, leaf, inner, Shaped, listing, size, label, marks}
+use Rattle.trees.specs.Trees.{Tree, leaf, inner, listing, size, label, marks}
 use Rattle.trees.specs.Reading.{first_refusal, outcome, Reads, Answers}
-use Rattle.trees.specs.declared.parts.Root.{Root}
 use Rattle.trees.specs.declared.parts.Root.TheVariants.{Leaf, Inner}
-use Rattle.trees.specs.Parts.{capped, right_size, Heads, Shorter}
+use Rattle.trees.specs.Parts.{capped, RightAbove, Heads}
 
 none_due : (o : Option Refusal) (u : Unit {0}) → Ok u ≡ outcome o → o ≡ None
 none_due None u e = refl
@@ -40,55 +39,52 @@ module _ (bs : List ℕ) (t : Tree) (e : bs ≡ listing t) where
   body_length : length (body t) ≡ length bs - 2
   body_length = let n = ap length ends ∙ length-append (body t) (label t ∷ marks t ∷ []) in omega arith
 
-  pub long : 2 ≤ length bs
-  long = omega (arith, ap length e, length_listing t, size_pos t)
-
   root_label : get_or bs (length bs - 2) 0 ≡ label t
   root_label = ap (λ (x : List ℕ). get_or x (length bs - 2) 0) ends ∙ get_or_at (body t) (label t) (marks t ∷ []) 0 (length bs - 2) body_length
 
   root_marks : get_or bs (length bs - 1) 0 ≡ marks t
   root_marks =
-      let n : length bs - 1 ≡ length (body t) + 1 = omega (arith, body_length, long) in
+      let n : length bs - 1 ≡ length (body t) + 1 = omega (arith, body_length, ap length e, length_listing t, size_pos t) in
       ap (λ (x : List ℕ). get_or x (length bs - 1) 0) ends
       ∙ (ap (λ (k : ℕ). get_or (body t ++ (label t ∷ marks t ∷ [])) k 0) n ∙ get_or-append-add (body t) (label t ∷ marks t ∷ []) 1 0)
 
   before_root : take (length bs - 2) bs ≡ body t
   before_root = ap (take (length bs - 2)) ends ∙ take_at (body t) (label t ∷ marks t ∷ []) (length bs - 2) body_length
 
-pub leaf_heads : (sh : Shape) (bs : List ℕ) (t : Tree) → Shaped sh t → bs ≡ listing t → get_or bs (length bs - 2) 0 < sh.leaves
+pub leaf_heads : (sh : Shape) (room : ℕ → Bool) (bs : List ℕ) (t : Tree) → Reads sh room bs t → get_or bs (length bs - 2) 0 < sh.leaves
     → Heads t (Leaf (get_or bs (length bs - 2) 0) (get_or bs (length bs - 1) 0))
-leaf_heads sh bs (leaf a m) h e low = (root_label bs (leaf a m) e, root_marks bs (leaf a m) e)
-leaf_heads sh bs (inner a m l r) h e low = absurd (omega (arith, h.0.0, root_label bs (inner a m l r) e))
+leaf_heads sh room bs (leaf a m) reads low = (root_label bs (leaf a m) reads.listed, root_marks bs (leaf a m) reads.listed)
+leaf_heads sh room bs (inner a m l r) reads low = absurd (omega (arith, reads.shaped.0.0, root_label bs (inner a m l r) reads.listed))
 
--- an inner root, whose parts are cut by the size n of the right one
-module _ (sh : Shape) (bs : List ℕ) (short : length bs ≤ 8192) (high : sh.leaves ≤ get_or bs (length bs - 2) 0) (n : ℕ) where
-  not_leaf : (a m : ℕ) → Shaped sh (leaf a m) → bs ≡ listing (leaf a m) → ⊥
-  not_leaf a m h e = omega (arith, h.0, root_label bs (leaf a m) e)
+-- an inner root, whose parts are cut by the size of the right one, which stands at place 1 of the stack
+module _ (sh : Shape) (room : ℕ → Bool) (bs : List ℕ) (xs : List ℕ) (high : sh.leaves ≤ get_or bs (length bs - 2) 0) where
+  abbrev Above : Tree → Type 0
+  Above t = RightAbove (λ v t. v ≡ capped (size t)) xs (t ∷ [])
 
-  parts_length : (a m : ℕ) (l r : Tree) → bs ≡ listing (inner a m l r) → length (take (length bs - 2) bs) ≡ size l * 2 + size r * 2
-  parts_length a m l r e = ap length (before_root bs (inner a m l r) e) ∙ simp length-append (omega (arith, length_listing l, length_listing r))
+  not_leaf : (a m : ℕ) → Reads sh room bs (leaf a m) → ⊥
+  not_leaf a m reads = omega (arith, reads.shaped.0, root_label bs (leaf a m) reads.listed)
 
-  exact : (a m : ℕ) (l r : Tree) → bs ≡ listing (inner a m l r) → n ≡ capped (size r) → n ≡ size r
-  exact a m l r e is = omega (arith, is, ap length e, length_listing (inner a m l r))
+  parts_length : (a m : ℕ) (l r : Tree) → Reads sh room bs (inner a m l r) → length (take (length bs - 2) bs) ≡ size l * 2 + size r * 2
+  parts_length a m l r reads = ap length (before_root bs (inner a m l r) reads.listed) ∙ simp length-append (omega (arith, length_listing l, length_listing r))
 
-  pub inner_heads : (t : Tree) → Shaped sh t → bs ≡ listing t → n ≡ right_size (t ∷ []) → (x y : Bor (List ℕ))
-      → x.now ≡ take (length (take (length bs - 2) bs) - 2 * n) (take (length bs - 2) bs)
-      → y.now ≡ drop (length (take (length bs - 2) bs) - 2 * n) (take (length bs - 2) bs)
+  exact : (a m : ℕ) (l r : Tree) → Reads sh room bs (inner a m l r) → Above (inner a m l r) → get_or xs 1 0 ≡ size r
+  exact a m l r reads above = omega (arith, above.1 0, reads.short, ap length reads.listed, length_listing (inner a m l r))
+
+  pub right_fits : (t : Tree) → Reads sh room bs t → Above t → 2 * get_or xs 1 0 ≤ length (take (length bs - 2) bs)
+  right_fits (leaf a m) reads above = absurd (not_leaf a m reads)
+  right_fits (inner a m l r) reads above = omega (arith, exact a m l r reads above, parts_length a m l r reads)
+
+  pub inner_heads : (t : Tree) → Reads sh room bs t → Above t → (x y : Bor (List ℕ))
+      → x.now ≡ take (length (take (length bs - 2) bs) - 2 * get_or xs 1 0) (take (length bs - 2) bs)
+      → y.now ≡ drop (length (take (length bs - 2) bs) - 2 * get_or xs 1 0) (take (length bs - 2) bs)
       → Heads t (Inner (get_or bs (length bs - 2) 0) (get_or bs (length bs - 1) 0) x y)
-  inner_heads (leaf a m) h e is x y p q = absurd (not_leaf a m h e)
-  inner_heads (inner a m l r) h e is x y p q =
-      let k = length (take (length bs - 2) bs) - 2 * n in
-      let c : length (listing l) ≡ k = omega (arith, parts_length a m l r e, exact a m l r e is, length_listing l) in (
+  inner_heads (leaf a m) reads above x y p q = absurd (not_leaf a m reads)
+  inner_heads (inner a m l r) reads above x y p q =
+      let e = reads.listed in
+      let k = length (take (length bs - 2) bs) - 2 * get_or xs 1 0 in
+      let c : length (listing l) ≡ k = omega (arith, parts_length a m l r reads, exact a m l r reads above, length_listing l) in (
         root_label bs (inner a m l r) e,
         root_marks bs (inner a m l r) e,
         p ∙ (ap (take k) (before_root bs (inner a m l r) e) ∙ take_at (listing l) (listing r) k c),
         q ∙ (ap (drop k) (before_root bs (inner a m l r) e) ∙ drop_at (listing l) (listing r) k c),
       )
-
-pub heads_shorter : (bs : List ℕ) (t : Tree) → bs ≡ listing t → (root : Root) → Heads t root → Shorter root (length bs)
-heads_shorter bs (leaf a m) e (Leaf b k) h = tt
-heads_shorter bs (leaf a m) e (Inner b k x y) h = elim h [ ]
-heads_shorter bs (inner a m l r) e (Leaf b k) h = tt
-heads_shorter bs (inner a m l r) e (Inner b k x y) h =
-    let n : length bs ≡ length (listing l) + (length (listing r) + 2) = ap length e ∙ simp length-append (omega arith) in
-    omega (arith, n, ap length h.2, ap length h.3)

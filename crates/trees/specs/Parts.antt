@@ -3,13 +3,14 @@
 --   places xs         room for as many parts as xs has places
 --   ValuesOf P xs ts  the stack xs has at the place of each open part of ts, the oldest at place 0, a value of which P holds
 --   capped            a number of nodes as 16 bits hold it
---   Sized xs n ts     the stack has the open parts' sizes, and n is the size of the newest one's right part
+--   RightAbove P xs ts   where the newest part is an inner node, the place above it has a value of which P holds with its right part
+--   Held P xs ts      both
 --   Heads t r         r is the root of t, with the listings of its parts
 --   Shorter r n       the listings of the parts are shorter than n bytes by the root's own two
 use Rattle.std.specs.Prelude.{◌≡◌, ℕ, ◌+◌, ◌<◌, min, Bool, List, [], ◌∷◌, length, nat_lt, slice_index_or}
 use Rattle.trees.specs.declared.parts.Root.{Root}
 use Rattle.trees.specs.declared.parts.Root.TheVariants.{Leaf, Inner}
-use Rattle.trees.specs.Trees.{Tree, leaf, inner, listing, size}
+use Rattle.trees.specs.Trees.{Tree, leaf, inner, listing}
 
 abbrev pub places : {V : Type 0} → List V → ℕ → Bool
 places xs n = nat_lt n (length xs)
@@ -21,13 +22,13 @@ ValuesOf {V} P xs (t ∷ ts) = (length ts < length xs) × ((d : V) → P (slice_
 abbrev pub capped : ℕ → ℕ
 capped n = min n 65535
 
-abbrev pub right_size : List Tree → ℕ
-right_size [] = 0
-right_size (leaf a m ∷ ts) = 0
-right_size (inner a m l r ∷ ts) = capped (size r)
+abbrev pub RightAbove : {V : Type 0} → (V → Tree → Type 0) → List V → List Tree → Type 0
+RightAbove P xs [] = Unit {0}
+RightAbove P xs (leaf a m ∷ ts) = Unit {0}
+RightAbove {V} P xs (inner a m l r ∷ ts) = (length (l ∷ ts) < length xs) × ((d : V) → P (slice_index_or xs (length (l ∷ ts)) d) r)
 
-abbrev pub Sized : List ℕ → ℕ → List Tree → Type 0
-Sized xs n ts = ValuesOf (λ v t. v ≡ capped (size t)) xs ts × (n ≡ right_size ts)
+abbrev pub Held : {V : Type 0} → (V → Tree → Type 0) → List V → List Tree → Type 0
+Held P xs ts = ValuesOf P xs ts × RightAbove P xs ts
 
 abbrev pub Heads : Tree → Root → Type 0
 Heads (leaf a m) (Leaf b k) = (b ≡ a) × (k ≡ m)

@@ -1,6 +1,10 @@
 // What a reading folds a tree into.
-ghost use Rattle.std.specs.Prelude.{◌≡◌, ℕ, ◌+◌, Bool, true, List, ◌∷◌, length};
+ghost use Rattle.std.specs.Prelude.{◌≡◌, ℕ, ◌+◌, Bool, List, ◌∷◌, length, is_ok, OnOk};
 ghost use Rattle.trees.specs.Trees.{Tree, leaf, inner};
+
+// There is no free place for one more part.
+#[derive(Clone, Copy, PartialEq, Eq, Debug)]
+pub struct NoRoom;
 
 // A stack of open parts, in memory that its maker was lent. The reader says how many parts are open.
 pub trait Fold {
@@ -10,11 +14,11 @@ pub trait Fold {
     // what it is for the second, which began as the first, to hold these open parts, the newest first
     ghost holds: { Self → Self → List Tree → Type 0 };
 
-    // Puts a leaf on top of `height` open parts, or answers false where there is no free place.
-    fn add_leaf(&mut self, height: usize, label: u8, marks: u8) -> bool
-        ensures free { result ≡ room self.old height }
+    // Puts a leaf on top of `height` open parts, where there is a free place.
+    fn add_leaf(&mut self, height: usize, label: u8, marks: u8) -> Result<(), NoRoom>
+        ensures free { is_ok result ≡ room self.old height }
         ensures same { room self.new ≡ room self.old }
-        ensures made { (s : Self) (ts : List Tree) → length ts ≡ height → result ≡ true → holds s self.old ts → holds s self.new (leaf label marks ∷ ts) };
+        ensures made { OnOk result ((s : Self) (ts : List Tree) → length ts ≡ height → holds s self.old ts → holds s self.new (leaf label marks ∷ ts)) };
 
     // Puts an inner node in the place of the newest two of `height` open parts.
     fn add_inner(&mut self, height: usize, label: u8, marks: u8)

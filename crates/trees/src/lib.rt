@@ -7,10 +7,12 @@ mod parts;
 mod reader;
 mod refusal;
 mod shape;
+mod values;
 
-pub use fold::Fold;
+pub use fold::{Fold, NoRoom};
 pub use laws::{node_laws, put_laws, reading_examples};
 pub use parts::{Root, split};
 pub use reader::{LONGEST, read};
 pub use refusal::{Origin, Reason, Refusal};
 pub use shape::Shape;
+pub use values::{Algebra, Values};

@@ -42,9 +42,8 @@ fn read_node<F: Fold>(
         return Err(refused(Reason::UnknownMarks, place));
     }
     if label < shape.leaves {
-        if !fold.add_leaf(height, label, marks) {
-            return Err(refused(Reason::StackFull, place));
-        }
+        fold.add_leaf(height, label, marks)
+            .map_err(|_| refused(Reason::StackFull, place))?;
         return Ok(height + 1);
     }
     if height < 2 {
