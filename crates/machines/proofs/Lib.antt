@@ -1,3 +1,1 @@
-mod Stacks
-mod Ends
 pub mod Questions

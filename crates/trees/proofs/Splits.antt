@@ -1,20 +1,11 @@
 -- A listing ends in the root's own two bytes, and before them stand the listings of its parts.
-use Rattle.std.proofs.Common.{◌≡◌, ℕ, ◌+◌, ◌-◌, ◌*◌, ◌<◌, ◌≤◌, Bool, List, [], ◌∷◌, ◌++◌, length, get_or, take, drop, Some, None, Ok, Option, sym, refl, ap, ◌∙◌, append_assoc, arith, Bor}
+use Rattle.std.proofs.Common.{◌≡◌, ℕ, ◌+◌, ◌-◌, ◌*◌, ◌<◌, ◌≤◌, Bool, List, [], ◌∷◌, ◌++◌, length, get_or, take, drop, sym, refl, ap, ◌∙◌, append_assoc, arith, Bor}
 use Rattle.std.proofs.lemmas.List.{length-append, get_or_at, get_or-append-add, take_at, drop_at}
 use Rattle.trees.specs.declared.shape.Shape.{Shape}
-use Rattle.trees.specs.declared.refusal.Refusal.{Refusal}
 use Rattle.trees.specs.Trees.{Tree, leaf, inner, listing, size, label, marks}
-use Rattle.trees.specs.Reading.{first_refusal, outcome, Reads, Answers}
+use Rattle.trees.specs.Reading.{Reads}
 use Rattle.trees.specs.declared.parts.Root.TheVariants.{Leaf, Inner}
 use Rattle.trees.specs.Parts.{capped, RightAbove, Heads}
-
-none_due : (o : Option Refusal) (u : Unit {0}) → Ok u ≡ outcome o → o ≡ None
-none_due None u e = refl
-none_due (Some x) u e = absurd (let z : ◌≡◌ {A = ℕ} 0 1 = cc in omega arith)
-
--- an answered reading has read a tree
-pub read_tree : (sh : Shape) (room : ℕ → Bool) (bs : List ℕ) (u : Unit {0}) → Answers sh room bs → Ok u ≡ outcome (first_refusal sh room bs) → (t : Tree) × Reads sh room bs t
-read_tree sh room bs u a e = a.reads.0 (none_due _ u e)
 
 abbrev body : Tree → List ℕ
 body (leaf a m) = []

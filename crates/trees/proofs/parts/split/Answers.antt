@@ -1,5 +1,6 @@
 use Rattle.std.proofs.Common.{refl, arith}
-use Rattle.trees.proofs.Splits.{read_tree, leaf_heads, right_fits, inner_heads}
+use Rattle.trees.proofs.Ends.{read_tree}
+use Rattle.trees.proofs.Splits.{leaf_heads, right_fits, inner_heads}
 use Rattle.trees.proofs.parts.split.Goals as goal
 
 pub returns-then-label-shape-clause-answer : goal.returns-then-label-shape-clause-answer
