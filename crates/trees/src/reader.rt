@@ -21,36 +21,50 @@ fn refused(reason: Reason, place: usize) -> Refusal
     }
 }
 
-// Reads node number `place` on top of `height` open parts: how many parts are open then.
-fn read_node<F: Fold>(
-    shape: Shape,
-    fold: &mut F,
+// How far a reading is: the number of nodes that are read, and of parts that are open.
+#[derive(Clone, Copy)]
+struct Reading {
     place: usize,
     height: usize,
-    label: u8,
-    marks: u8,
-) -> Result<usize, Refusal>
-    requires { height < 2 ^ 63 }
-    ensures due { MatchResult result (λ n. (node_refusal shape (F.Fold.room fold.old) place height label marks ≡ None) × (n ≡ opened shape height label)) (λ e. node_refusal shape (F.Fold.room fold.old) place height label marks ≡ Some e) }
-    ensures same { F.Fold.room fold.new ≡ F.Fold.room fold.old }
-    ensures made { OnOk result ((s : F) (ts : List Tree) → length ts ≡ height → F.Fold.holds s fold.old ts → F.Fold.holds s fold.new (grown shape.leaves label marks ts)) }
-{
-    if !shape.has_label(label) {
-        return Err(refused(Reason::UnknownLabel, place));
+}
+
+impl Reading {
+    // Reads one node more into the fold.
+    fn read_node<F: Fold>(
+        &mut self,
+        shape: Shape,
+        fold: &mut F,
+        label: u8,
+        marks: u8,
+    ) -> Result<(), Refusal>
+        requires place_fits { self.old.place < 2 ^ 63 }
+        requires height_fits { self.old.height < 2 ^ 63 }
+        ensures due { MatchResult result (λ _. node_refusal shape (F.Fold.room fold.old) self.old.place self.old.height label marks ≡ None) (λ e. node_refusal shape (F.Fold.room fold.old) self.old.place self.old.height label marks ≡ Some e) }
+        ensures place { OnOk result (self.new.place ≡ self.old.place + 1) }
+        ensures height { OnOk result (self.new.height ≡ opened shape self.old.height label) }
+        ensures same { F.Fold.room fold.new ≡ F.Fold.room fold.old }
+        ensures made { OnOk result ((s : F) (ts : List Tree) → length ts ≡ self.old.height → F.Fold.holds s fold.old ts → F.Fold.holds s fold.new (grown shape.leaves label marks ts)) }
+    {
+        let place = self.place;
+        if !shape.has_label(label) {
+            return Err(refused(Reason::UnknownLabel, place));
+        }
+        if !shape.has_marks(marks) {
+            return Err(refused(Reason::UnknownMarks, place));
+        }
+        if label < shape.leaves {
+            fold.add_leaf(self.height, label, marks)
+                .map_err(|_| refused(Reason::StackFull, place))?;
+            self.height += 1;
+        } else if self.height < 2 {
+            return Err(refused(Reason::MissingParts, place));
+        } else {
+            fold.add_inner(self.height, label, marks);
+            self.height -= 1;
+        }
+        self.place += 1;
+        Ok(())
     }
-    if !shape.has_marks(marks) {
-        return Err(refused(Reason::UnknownMarks, place));
-    }
-    if label < shape.leaves {
-        fold.add_leaf(height, label, marks)
-            .map_err(|_| refused(Reason::StackFull, place))?;
-        return Ok(height + 1);
-    }
-    if height < 2 {
-        return Err(refused(Reason::MissingParts, place));
-    }
-    fold.add_inner(height, label, marks);
-    Ok(height - 1)
 }
 
 fn read_nodes<F: Fold>(shape: Shape, listing: &[u8], fold: &mut F) -> Result<(), Refusal>
@@ -61,16 +75,17 @@ fn read_nodes<F: Fold>(shape: Shape, listing: &[u8], fold: &mut F) -> Result<(),
     if listing.len() > LONGEST || listing.len() % 2 != 0 {
         return Err(refused(Reason::BadLength, 0));
     }
+    let mut reading = Reading {
+        place: 0,
+        height: 0,
+    };
     let mut bytes = listing;
-    let mut place = 0;
-    let mut height = 0;
     while let [label, marks, rest @ ..] = bytes {
-        height = read_node(shape, fold, place, height, *label, *marks)?;
-        place += 1;
+        reading.read_node(shape, fold, *label, *marks)?;
         bytes = rest;
     }
-    if height != 1 {
-        return Err(refused(Reason::NotOneTree, place));
+    if reading.height != 1 {
+        return Err(refused(Reason::NotOneTree, reading.place));
     }
     Ok(())
 }
