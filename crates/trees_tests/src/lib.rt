@@ -7,18 +7,16 @@ mod tests {
     use std::test::Fail;
     use trees::{Root, Shape, split};
 
-    // The number and place of the refusal that a listing is due, or zeros.
+    // The number and place of the refusal that a listing is due.
     fn verdict(
         heap: Global,
         shape: Shape,
         listing: &[u8],
         places: usize,
-    ) -> Result<(u8, usize), AllocError> {
+    ) -> Result<Option<(u8, usize)>, AllocError> {
         let mut stack = vec![in heap; 7u16; places]?;
-        match split(shape, listing, stack.as_mut_slice()) {
-            Ok(_) => Ok((0, 0)),
-            Err(refusal) => Ok((refusal.reason.number(), refusal.place)),
-        }
+        let refused = split(shape, listing, &mut stack).err();
+        Ok(refused.map(|refusal| (refusal.reason.number(), refusal.place)))
     }
 
     // `leaves` leaves, an inner node after each but the first.
@@ -60,16 +58,24 @@ mod tests {
     #[test]
     fn labels_and_marks_at_their_limits(rt: HostRuntime) -> Result<(), Fail> {
         let heap = rt.alloc();
-        assert_eq!(rt; verdict(heap, WIDE, &[1, 63], 1)?, (0, 0));
-        assert_eq!(rt; verdict(heap, WIDE, &[1, 64], 1)?, (15, 0));
-        assert_eq!(rt; verdict(heap, WIDE, &[2, 0], 1)?, (16, 0));
-        assert_eq!(rt; verdict(heap, WIDE, &[3, 0], 1)?, (16, 0));
-        assert_eq!(rt; verdict(heap, WIDE, &[4, 0], 1)?, (14, 0));
-        assert_eq!(rt; verdict(heap, WIDE, &[0, 0, 1, 63, 3, 63], 2)?, (0, 0));
-        assert_eq!(rt; verdict(heap, SMALL, &[1, 3], 1)?, (0, 0));
-        assert_eq!(rt; verdict(heap, SMALL, &[1, 4], 1)?, (15, 0));
-        assert_eq!(rt; verdict(heap, SMALL, &[3, 4], 1)?, (14, 0));
-        assert_eq!(rt; verdict(heap, SMALL, &[0, 0, 2, 0], 0)?, (17, 0));
+        for (listing, due) in [
+            ([1, 63], None),
+            ([1, 64], Some((15, 0))),
+            ([2, 0], Some((16, 0))),
+            ([3, 0], Some((16, 0))),
+            ([4, 0], Some((14, 0))),
+        ] {
+            assert_eq!(rt; verdict(heap, WIDE, &listing, 1)?, due);
+        }
+        for (listing, due) in [
+            ([1, 3], None),
+            ([1, 4], Some((15, 0))),
+            ([3, 4], Some((14, 0))),
+        ] {
+            assert_eq!(rt; verdict(heap, SMALL, &listing, 1)?, due);
+        }
+        assert_eq!(rt; verdict(heap, WIDE, &[0, 0, 1, 63, 3, 63], 2)?, None);
+        assert_eq!(rt; verdict(heap, SMALL, &[0, 0, 2, 0], 0)?, Some((17, 0)));
         Ok(())
     }
 
@@ -78,11 +84,11 @@ mod tests {
         let heap = rt.alloc();
         let mut bytes = left_comb(heap, 2048)?;
         assert_eq!(rt; bytes.len(), 8190);
-        assert_eq!(rt; verdict(heap, SMALL, bytes.as_slice(), 2)?, (0, 0));
+        assert_eq!(rt; verdict(heap, SMALL, &bytes, 2)?, None);
         bytes.extend_from_slice(&[0, 0])?;
-        assert_eq!(rt; verdict(heap, SMALL, bytes.as_slice(), 2)?, (18, 4096));
+        assert_eq!(rt; verdict(heap, SMALL, &bytes, 2)?, Some((18, 4096)));
         bytes.extend_from_slice(&[9, 9])?;
-        assert_eq!(rt; verdict(heap, SMALL, bytes.as_slice(), 2)?, (13, 0));
+        assert_eq!(rt; verdict(heap, SMALL, &bytes, 2)?, Some((13, 0)));
         Ok(())
     }
 
@@ -90,34 +96,25 @@ mod tests {
     fn a_stack_exactly_full_and_one_short(rt: HostRuntime) -> Result<(), Fail> {
         let heap = rt.alloc();
         let bytes = right_comb(heap, 2048)?;
-        assert_eq!(rt; verdict(heap, SMALL, bytes.as_slice(), 2048)?, (0, 0));
-        assert_eq!(rt; verdict(heap, SMALL, bytes.as_slice(), 2047)?, (17, 2047));
+        assert_eq!(rt; verdict(heap, SMALL, &bytes, 2048)?, None);
+        assert_eq!(rt; verdict(heap, SMALL, &bytes, 2047)?, Some((17, 2047)));
         assert_eq!(rt;
             verdict(heap, SMALL, left_comb(heap, 3)?.as_slice(), 1)?,
-            (17, 1)
+            Some((17, 1))
         );
         Ok(())
     }
 
     #[test]
-    fn parts_of_a_root(rt: HostRuntime) -> Result<(), Fail> {
-        let mut stack = [0; 3];
-        match split(SMALL, &[0, 1, 1, 0, 1, 2, 2, 1, 2, 3], &mut stack) {
-            Ok(
-                Root::Inner {
-                    label,
-                    marks,
-                    left,
-                    right,
-                },
-            ) => {
-                assert_eq!(rt; (label, marks), (2, 3));
-                assert_eq!(rt; left, [0, 1].as_slice());
-                assert_eq!(rt; right, [1, 0, 1, 2, 2, 1].as_slice());
-                Ok(())
-            }
-            _ => Err(Fail::new("an inner root was read")),
-        }
+    fn parts_of_a_root(rt: HostRuntime) {
+        let root = split(SMALL, &[0, 1, 1, 0, 1, 2, 2, 1, 2, 3], &mut [0; 3]);
+        let parts = Root::Inner {
+            label: 2,
+            marks: 3,
+            left: &[0, 1],
+            right: &[1, 0, 1, 2, 2, 1],
+        };
+        assert_eq!(rt; root, Ok(parts));
     }
 
     #[test]
