@@ -25,7 +25,7 @@ some_inj : (x e : Refusal) → Some x ≡ Some e → x ≡ e
 some_inj x e h = cc
 
 not_none : (e : Refusal) → None ≡ Some e → ⊥
-not_none e h = let z : ◌≡◌ {A = ℕ} 0 1 = cc in omega arith
+not_none e h = cc
 
 abbrev Placed : ℕ → Option Refusal → Type 0
 Placed k None = Unit {0}

@@ -130,7 +130,7 @@ module _ (sh : Shape) (room : ℕ → Bool) where
 
   neither_due : (o rest : Option Refusal) → or_else o rest ≡ None → (o ≡ None) × (rest ≡ None)
   neither_due None rest e = (refl, e)
-  neither_due (Some x) rest e = absurd (let z : ◌≡◌ {A = ℕ} 0 1 = cc in omega arith)
+  neither_due (Some x) rest e = cc
 
   Whole : List ℕ → Type 0
   Whole bs = (t : Tree) × Shaped sh t × Stacked room t × (bs ≡ listing t)
@@ -144,7 +144,7 @@ module _ (sh : Shape) (room : ℕ → Bool) where
       one [] h l = absurd (omega arith)
       one (t ∷ []) h l = (t, h.0, (λ p q. subst (λ (x : ℕ). room x ≡ true) (omega arith) (h.1 p q)), append-nil (listing t))
       one (t ∷ u ∷ us) h l = absurd (omega arith)
-  read_held (a ∷ []) ts k held e = absurd (let z : ◌≡◌ {A = ℕ} 0 1 = cc in omega arith)
+  read_held (a ∷ []) ts k held e = cc
   read_held (a ∷ m ∷ bs) ts k held e =
       let d = neither_due _ _ e in
       let f = fine sh room k (length ts) a m d.0 in

@@ -10,7 +10,7 @@ use Rattle.trees.specs.Reading.{check, or_else, node_refusal, opened, rest_refus
 
 pub passed : (ok : Bool) (e : Refusal) (rest : Option Refusal) → check ok e rest ≡ None → (ok ≡ true) × (rest ≡ None)
 passed true e rest h = (refl, h)
-passed false e rest h = absurd (let z : ◌≡◌ {A = ℕ} 0 1 = cc in omega arith)
+passed false e rest h = cc
 
 -- what holds at a node where nothing is due
 pub record Fine (sh : Shape) (room : ℕ → Bool) (n a m : ℕ) : Type 0 where
@@ -20,7 +20,7 @@ pub record Fine (sh : Shape) (room : ℕ → Bool) (n a m : ℕ) : Type 0 where
   pub finds : ltb a sh.leaves ≡ true → room n ≡ true
 
 or_false : (x y : Bool) → (x || y) ≡ true → x ≡ false → y ≡ true
-or_false true y h e = absurd (let z : true ≡ false = e in let w : ◌≡◌ {A = ℕ} 0 1 = cc in omega arith)
+or_false true y h e = cc
 or_false false y h e = h
 
 pub fine : (sh : Shape) (room : ℕ → Bool) (k n a m : ℕ) → node_refusal sh room k n a m ≡ None → Fine sh room n a m
