@@ -3,7 +3,8 @@ ghost use Rattle.std.specs.Prelude.{◌≡◌, ℕ, ◌^◌, ◌<◌};
 
 use lent::Zero;
 
-// Codes below `limit` go in and come out again; any other is put in as 0.
+// Codes below `limit` go in and come out again; any other is put in as 0. `TryFrom` does not say of every type which
+// numbers it takes, so each type of numbers says it here.
 pub trait Code: Zero {
     ghost limit: { ℕ };
 

@@ -67,6 +67,7 @@ impl Reading {
     }
 }
 
+// As `read`, said of the bytes and the open parts that they make.
 fn read_nodes<F: Fold>(shape: Shape, listing: &[u8], fold: &mut F) -> Result<(), Refusal>
     ensures due { MatchResult result (λ _. first_refusal shape (F.Fold.room fold.old) listing.now ≡ None) (λ e. first_refusal shape (F.Fold.room fold.old) listing.now ≡ Some e) }
     ensures same { F.Fold.room fold.new ≡ F.Fold.room fold.old }
@@ -79,6 +80,7 @@ fn read_nodes<F: Fold>(shape: Shape, listing: &[u8], fold: &mut F) -> Result<(),
         place: 0,
         height: 0,
     };
+    // the pattern names a node's two bytes; a chunk of the listing would be a slice again
     let mut bytes = listing;
     while let [label, marks, rest @ ..] = bytes {
         reading.read_node(shape, fold, *label, *marks)?;

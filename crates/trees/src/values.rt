@@ -18,7 +18,7 @@ pub trait Algebra<V> {
 }
 
 // A stack with the value of each open part. Where the newest part is an inner node, the value of its right part is
-// left in the place above it.
+// left in the place above it. No count of parts stands beside the slice: the reader's is the only one.
 #[derive(Drop)]
 pub struct Values<'s, A, V> {
     pub algebra: A,
