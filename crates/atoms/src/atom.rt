@@ -1,16 +1,13 @@
 // The atom that a constructor is asked for, and the checks that it has to pass.
-ghost use Rattle.std.specs.Prelude.{◌≡◌, None};
-ghost use Rattle.trees.specs.Shapes.{limits};
-ghost use Rattle.trees.specs.Reading.{check, outcome};
+ghost use Rattle.std.specs.Prelude.{◌≡◌};
 ghost use Rattle.automata.specs.Atoms.{atom_automaton};
-ghost use Rattle.machine.specs.Making.{refusal};
 ghost use Rattle.atoms.specs.Making.{asked, tracks_fit, label_fits, Makes};
 
-use machine::refused;
+use machine::check;
 use trees::{Reason, Refusal, Shape};
 
 // Over tracks, and for `Lab` a track and a label.
-#[derive(Clone, Copy)]
+#[derive(Clone, Copy, PartialEq, Eq, Debug)]
 pub enum Atom {
     Sub(usize, usize),
     Lab(usize, usize),
@@ -20,50 +17,38 @@ pub enum Atom {
     Below(usize, usize),
 }
 
-fn check_limits(shape: Shape) -> Result<(), Refusal>
-    ensures { result ≡ outcome (check (limits shape.leaves shape.inners shape.tracks) (refusal Reason.OutsideLimits) None) }
-{
-    match Shape::new(
-        usize::from(shape.leaves),
-        usize::from(shape.inners),
-        usize::from(shape.tracks),
-    ) {
-        Some(_) => Ok(()),
-        None => Err(refused(Reason::OutsideLimits)),
+impl Atom {
+    fn tracks_fit(self, shape: Shape) -> bool
+        ensures { result ≡ tracks_fit shape (asked self) }
+    {
+        let highest = match self {
+            Atom::Lab(i, _) | Atom::Sing(i) => i,
+            Atom::Sub(i, j) | Atom::Left(i, j) | Atom::Right(i, j) | Atom::Below(i, j) => i.max(j),
+        };
+        highest < usize::from(shape.tracks)
     }
-}
 
-fn check_tracks(shape: Shape, atom: Atom) -> Result<(), Refusal>
-    ensures { result ≡ outcome (check (tracks_fit shape (asked atom)) (refusal Reason.NoSuchTrack) None) }
-{
-    let highest = match atom {
-        Atom::Lab(i, _) | Atom::Sing(i) => i,
-        Atom::Sub(i, j) | Atom::Left(i, j) | Atom::Right(i, j) | Atom::Below(i, j) => i.max(j),
-    };
-    if highest < usize::from(shape.tracks) {
-        Ok(())
-    } else {
-        Err(refused(Reason::NoSuchTrack))
-    }
-}
-
-fn check_label(shape: Shape, atom: Atom) -> Result<(), Refusal>
-    ensures { result ≡ outcome (check (label_fits shape (asked atom)) (refusal Reason.NoSuchLabel) None) }
-{
-    match atom {
-        Atom::Lab(_, label) if label >= usize::from(shape.leaves) + usize::from(shape.inners) => {
-            Err(refused(Reason::NoSuchLabel))
+    fn label_fits(self, shape: Shape) -> bool
+        ensures { result ≡ label_fits shape (asked self) }
+    {
+        match self {
+            Atom::Lab(_, label) => label < usize::from(shape.leaves) + usize::from(shape.inners),
+            _ => true,
         }
-        _ => Ok(()),
     }
-}
 
-// Where no refusal is due, the automaton of the atom is all that a made machine has to be.
-pub fn check_atom(shape: Shape, atom: Atom) -> Result<(), Refusal>
-    ensures { Makes shape (asked atom) (λ _. atom_automaton shape (asked atom)) result }
-{
-    check_limits(shape)?;
-    check_tracks(shape, atom)?;
-    check_label(shape, atom)?;
-    Ok(())
+    // Where no refusal is due, the automaton of the atom is all that a made machine has to be.
+    pub(crate) fn check(self, shape: Shape) -> Result<(), Refusal>
+        ensures { Makes shape (asked self) (λ _. atom_automaton shape (asked self)) result }
+    {
+        let limited = Shape::new(
+            usize::from(shape.leaves),
+            usize::from(shape.inners),
+            usize::from(shape.tracks),
+        );
+        check(limited.is_some(), Reason::OutsideLimits)?;
+        check(self.tracks_fit(shape), Reason::NoSuchTrack)?;
+        check(self.label_fits(shape), Reason::NoSuchLabel)?;
+        Ok(())
+    }
 }

@@ -3,12 +3,15 @@ ghost use Rattle.std.specs.Prelude.{◌≡◌, ℕ, Bool, if◌then◌else◌};
 ghost use Rattle.std.proofs.Common.{subst};
 ghost use Rattle.trees.specs.declared.shape.Shape.{Shape};
 ghost use Rattle.automata.specs.Automata.{Lawful};
-ghost use Rattle.automata.specs.Rules.{Atom};
+ghost use Rattle.automata.specs.Rules as Rules;
 ghost use Rattle.automata.specs.Atoms.{every_automaton, atom_automaton};
 ghost use Rattle.automata.proofs.AtomAutomata.{atom_lawful};
+ghost use Rattle.atoms.specs.Making.{asked, Makes};
+ghost use Rattle.atoms.specs.Meanings.{every_meaning};
 
+use crate::atom::Atom;
 use machine::{Machine, asks_inner, asks_leaf};
-use trees::Shape;
+use trees::{Refusal, Shape};
 
 pub trait NodeRule {
     // which labels and marks are bad
@@ -17,9 +20,18 @@ pub trait NodeRule {
     // whether none is, so that one code is enough
     ghost trivial: { Self → Bool };
 
-    ghost atom: { Self → Atom };
+    ghost atom: { Self → Rules.Atom };
+
+    // the atom that two numbers ask for
+    ghost asks: { ℕ → ℕ → Rules.Atom };
 
     ghost means: { (r : Self) (sh : Shape) → atom_automaton sh (atom r) ≡ every_automaton sh (if trivial r then 1 else 2) (bad r) };
+
+    fn of(first: usize, second: usize) -> Self
+        ensures { atom result ≡ asks first second };
+
+    fn atom(&self) -> Atom
+        ensures { asked result ≡ atom self.now };
 
     fn is_bad(&self, label: u8, marks: u8) -> bool
         ensures { result ≡ bad self.now label marks };
@@ -29,10 +41,20 @@ pub trait NodeRule {
 }
 
 // Code 0 where no node so far is bad, 1 else.
-#[derive(Clone, Copy)]
+#[derive(Clone, Copy, PartialEq, Eq, Debug)]
 pub struct Every<T> {
-    pub(crate) shape: Shape,
-    pub(crate) rule: T,
+    shape: Shape,
+    rule: T,
+}
+
+impl<T: NodeRule + Drop> Every<T> {
+    pub fn new(shape: Shape, first: usize, second: usize) -> Result<Every<T>, Refusal>
+        ensures { Makes shape (T.NodeRule.asks first second) (every_meaning T.NodeRule.atom) result }
+    {
+        let rule = T::of(first, second);
+        rule.atom().check(shape)?;
+        Ok(Every { shape, rule })
+    }
 }
 
 impl<T: NodeRule> Machine for Every<T> {

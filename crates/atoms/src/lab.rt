@@ -2,35 +2,20 @@
 ghost use Rattle.std.specs.Prelude.{◌≡◌, false, refl};
 ghost use Rattle.automata.specs.Rules.{lab};
 ghost use Rattle.automata.specs.Atoms.{lab_bad};
-ghost use Rattle.atoms.specs.Making.{Makes};
-ghost use Rattle.atoms.specs.Meanings.{labelled, lab_meaning};
+ghost use Rattle.atoms.specs.Meanings.{labelled};
 
-use crate::atom::{Atom, check_atom};
+use crate::atom::Atom;
 use crate::every::{Every, NodeRule};
 use crate::marks::has_mark;
-use trees::{Refusal, Shape};
 
 // A node of the track has the label.
-#[derive(Clone, Copy)]
+#[derive(Clone, Copy, PartialEq, Eq, Debug)]
 pub struct Labelled {
-    track: u8,
-    label: u8,
+    track: usize,
+    label: usize,
 }
 
 pub type Lab = Every<Labelled>;
-
-impl Lab {
-    pub fn new(shape: Shape, track: usize, label: usize) -> Result<Lab, Refusal>
-        ensures { Makes shape (lab track label) lab_meaning result }
-    {
-        check_atom(shape, Atom::Lab(track, label))?;
-        let rule = Labelled {
-            track: track as u8,
-            label: label as u8,
-        };
-        Ok(Every { shape, rule })
-    }
-}
 
 impl NodeRule for Labelled {
     ghost bad = { λ r. lab_bad r.track r.label };
@@ -39,10 +24,20 @@ impl NodeRule for Labelled {
 
     ghost atom = { labelled };
 
+    ghost asks = { lab };
+
     ghost means = { λ _ _. refl };
 
+    fn of(track: usize, label: usize) -> Labelled {
+        Labelled { track, label }
+    }
+
+    fn atom(&self) -> Atom {
+        Atom::Lab(self.track, self.label)
+    }
+
     fn is_bad(&self, label: u8, marks: u8) -> bool {
-        has_mark(marks, self.track) && label != self.label
+        has_mark(marks, self.track) && usize::from(label) != self.label
     }
 
     fn is_trivial(&self) -> bool {

@@ -2,47 +2,29 @@
 ghost use Rattle.std.specs.Prelude.{refl};
 ghost use Rattle.automata.specs.Rules.{left_of};
 ghost use Rattle.automata.specs.Atoms.{left_step};
-ghost use Rattle.atoms.specs.Making.{Makes};
-ghost use Rattle.atoms.specs.Meanings.{left_meaning};
 
-use crate::atom::{Atom, check_atom};
+use crate::atom::Atom;
+use crate::child::child_step;
 use crate::related::{Related, Relation};
-use crate::standings::{alone, beside, met, passed};
 use automata::Standing;
-use trees::{Refusal, Shape};
 
-#[derive(Clone, Copy)]
+#[derive(Clone, Copy, Default, PartialEq, Eq, Debug)]
 pub struct LeftChild;
 
 pub type Left = Related<LeftChild>;
 
-impl Left {
-    pub fn new(shape: Shape, upper: usize, lower: usize) -> Result<Left, Refusal>
-        ensures { Makes shape (left_of upper lower) left_meaning result }
-    {
-        check_atom(shape, Atom::Left(upper, lower))?;
-        Ok(Related {
-            shape,
-            relation: LeftChild,
-            upper: upper as u8,
-            lower: lower as u8,
-        })
-    }
-}
-
 impl Relation for LeftChild {
-    ghost step = { λ _. left_step };
+    ghost step = { left_step };
 
-    ghost atom = { λ _. left_of };
+    ghost atom = { left_of };
 
-    ghost means = { λ _ _ _ _. refl };
+    ghost means = { λ _ _ _. refl };
+
+    fn atom(upper: usize, lower: usize) -> Atom {
+        Atom::Left(upper, lower)
+    }
 
     fn join(&self, upper: bool, lower: bool, left: Standing, right: Standing) -> Standing {
-        match (upper, lower) {
-            (false, false) => beside(passed(left), passed(right)),
-            (false, true) => alone(beside(left, right)),
-            (true, false) => met(beside(left, passed(right))),
-            (true, true) => Standing::Dead,
-        }
+        child_step(upper, lower, left, right)
     }
 }

@@ -3,6 +3,7 @@
 
 mod atom;
 mod below;
+mod child;
 mod every;
 mod lab;
 mod left;

@@ -3,41 +3,61 @@ ghost use Rattle.std.specs.Prelude.{◌≡◌, ℕ};
 ghost use Rattle.std.proofs.Common.{subst};
 ghost use Rattle.trees.specs.declared.shape.Shape.{Shape};
 ghost use Rattle.automata.specs.Automata.{Lawful};
-ghost use Rattle.automata.specs.Rules.{Atom};
+ghost use Rattle.automata.specs.Rules as Rules;
 ghost use Rattle.automata.specs.Atoms.{Step, ones_automaton, atom_automaton};
 ghost use Rattle.automata.proofs.AtomAutomata.{atom_lawful};
+ghost use Rattle.atoms.specs.Making.{asked, Makes};
+ghost use Rattle.atoms.specs.Meanings.{related_meaning};
 
+use crate::atom::Atom;
 use crate::marks::has_mark;
 use crate::standings::{leaf_standing, number_of, standing_of};
 use automata::Standing;
 use machine::{Machine, asks_inner, asks_leaf};
-use trees::Shape;
+use trees::{Refusal, Shape};
 
 pub trait Relation {
-    ghost step: { Self → Step };
+    ghost step: { Step };
 
-    ghost atom: { Self → ℕ → ℕ → Atom };
+    ghost atom: { ℕ → ℕ → Rules.Atom };
 
-    ghost means: { (r : Self) (sh : Shape) (i j : ℕ) → atom_automaton sh (atom r i j) ≡ ones_automaton (step r) sh i j };
+    ghost means: { (sh : Shape) (i j : ℕ) → atom_automaton sh (atom i j) ≡ ones_automaton step sh i j };
+
+    fn atom(upper: usize, lower: usize) -> Atom
+        ensures { asked result ≡ atom upper lower };
 
     // What two parts make under a node that is in these tracks.
     fn join(&self, upper: bool, lower: bool, left: Standing, right: Standing) -> Standing
-        ensures { result ≡ step self.now upper lower left right };
+        ensures { result ≡ step upper lower left right };
 }
 
 // No relation holds where the tracks are one, and code 0 is then the only one.
-#[derive(Clone, Copy)]
+#[derive(Clone, Copy, PartialEq, Eq, Debug)]
 pub struct Related<R> {
-    pub(crate) shape: Shape,
-    pub(crate) relation: R,
-    pub(crate) upper: u8,
-    pub(crate) lower: u8,
+    shape: Shape,
+    relation: R,
+    upper: usize,
+    lower: usize,
+}
+
+impl<R: Relation + Default> Related<R> {
+    pub fn new(shape: Shape, upper: usize, lower: usize) -> Result<Related<R>, Refusal>
+        ensures { Makes shape (R.Relation.atom upper lower) (related_meaning R.Relation.atom) result }
+    {
+        R::atom(upper, lower).check(shape)?;
+        Ok(Related {
+            shape,
+            relation: R::default(),
+            upper,
+            lower,
+        })
+    }
 }
 
 impl<R: Relation> Machine for Related<R> {
-    ghost meaning = { λ s. ones_automaton (R.Relation.step s.relation) s.shape s.upper s.lower };
+    ghost meaning = { λ s. ones_automaton R.Relation.step s.shape s.upper s.lower };
 
-    ghost lawful = { λ s. subst Lawful (R.Relation.means s.relation s.shape s.upper s.lower) (atom_lawful s.shape (R.Relation.atom s.relation s.upper s.lower)) };
+    ghost lawful = { λ s. subst Lawful (R.Relation.means s.shape s.upper s.lower) (atom_lawful s.shape (R.Relation.atom s.upper s.lower)) };
 
     fn shape(&self) -> Shape {
         self.shape

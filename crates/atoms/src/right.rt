@@ -2,47 +2,29 @@
 ghost use Rattle.std.specs.Prelude.{refl};
 ghost use Rattle.automata.specs.Rules.{right_of};
 ghost use Rattle.automata.specs.Atoms.{right_step};
-ghost use Rattle.atoms.specs.Making.{Makes};
-ghost use Rattle.atoms.specs.Meanings.{right_meaning};
 
-use crate::atom::{Atom, check_atom};
+use crate::atom::Atom;
+use crate::child::child_step;
 use crate::related::{Related, Relation};
-use crate::standings::{alone, beside, met, passed};
 use automata::Standing;
-use trees::{Refusal, Shape};
 
-#[derive(Clone, Copy)]
+#[derive(Clone, Copy, Default, PartialEq, Eq, Debug)]
 pub struct RightChild;
 
 pub type Right = Related<RightChild>;
 
-impl Right {
-    pub fn new(shape: Shape, upper: usize, lower: usize) -> Result<Right, Refusal>
-        ensures { Makes shape (right_of upper lower) right_meaning result }
-    {
-        check_atom(shape, Atom::Right(upper, lower))?;
-        Ok(Related {
-            shape,
-            relation: RightChild,
-            upper: upper as u8,
-            lower: lower as u8,
-        })
-    }
-}
-
 impl Relation for RightChild {
-    ghost step = { λ _. right_step };
+    ghost step = { right_step };
 
-    ghost atom = { λ _. right_of };
+    ghost atom = { right_of };
 
-    ghost means = { λ _ _ _ _. refl };
+    ghost means = { λ _ _ _. refl };
+
+    fn atom(upper: usize, lower: usize) -> Atom {
+        Atom::Right(upper, lower)
+    }
 
     fn join(&self, upper: bool, lower: bool, left: Standing, right: Standing) -> Standing {
-        match (upper, lower) {
-            (false, false) => beside(passed(left), passed(right)),
-            (false, true) => alone(beside(left, right)),
-            (true, false) => met(beside(passed(left), right)),
-            (true, true) => Standing::Dead,
-        }
+        child_step(upper, lower, right, left)
     }
 }

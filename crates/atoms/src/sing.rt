@@ -4,16 +4,16 @@ ghost use Rattle.automata.proofs.AtomAutomata.{atom_lawful};
 ghost use Rattle.atoms.specs.Making.{Makes};
 ghost use Rattle.atoms.specs.Meanings.{sing_meaning};
 
-use crate::atom::{Atom, check_atom};
+use crate::atom::Atom;
 use crate::marks::has_mark;
 use machine::{Machine, asks_inner, asks_leaf};
 use trees::{Refusal, Shape};
 
 // Code 0 for no node of the track so far, 1 for one, 2 for more.
-#[derive(Clone, Copy)]
+#[derive(Clone, Copy, PartialEq, Eq, Debug)]
 pub struct Sing {
     shape: Shape,
-    track: u8,
+    track: usize,
 }
 
 impl Sing {
@@ -22,11 +22,8 @@ impl Sing {
     pub fn new(shape: Shape, track: usize) -> Result<Sing, Refusal>
         ensures { Makes shape (sing track) sing_meaning result }
     {
-        check_atom(shape, Atom::Sing(track))?;
-        Ok(Sing {
-            shape,
-            track: track as u8,
-        })
+        Atom::Sing(track).check(shape)?;
+        Ok(Sing { shape, track })
     }
 }
 

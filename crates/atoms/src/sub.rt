@@ -2,35 +2,20 @@
 ghost use Rattle.std.specs.Prelude.{◌≡◌, ◌==◌, refl};
 ghost use Rattle.automata.specs.Rules.{sub};
 ghost use Rattle.automata.specs.Atoms.{sub_bad};
-ghost use Rattle.atoms.specs.Making.{Makes};
-ghost use Rattle.atoms.specs.Meanings.{inclusion, sub_meaning};
+ghost use Rattle.atoms.specs.Meanings.{inclusion};
 
-use crate::atom::{Atom, check_atom};
+use crate::atom::Atom;
 use crate::every::{Every, NodeRule};
 use crate::marks::has_mark;
-use trees::{Refusal, Shape};
 
 // A node of the smaller track is in the larger one.
-#[derive(Clone, Copy)]
+#[derive(Clone, Copy, PartialEq, Eq, Debug)]
 pub struct Inclusion {
-    smaller: u8,
-    larger: u8,
+    smaller: usize,
+    larger: usize,
 }
 
 pub type Sub = Every<Inclusion>;
-
-impl Sub {
-    pub fn new(shape: Shape, smaller: usize, larger: usize) -> Result<Sub, Refusal>
-        ensures { Makes shape (sub smaller larger) sub_meaning result }
-    {
-        check_atom(shape, Atom::Sub(smaller, larger))?;
-        let rule = Inclusion {
-            smaller: smaller as u8,
-            larger: larger as u8,
-        };
-        Ok(Every { shape, rule })
-    }
-}
 
 impl NodeRule for Inclusion {
     ghost bad = { λ r. sub_bad r.smaller r.larger };
@@ -39,7 +24,17 @@ impl NodeRule for Inclusion {
 
     ghost atom = { inclusion };
 
+    ghost asks = { sub };
+
     ghost means = { λ _ _. refl };
+
+    fn of(smaller: usize, larger: usize) -> Inclusion {
+        Inclusion { smaller, larger }
+    }
+
+    fn atom(&self) -> Atom {
+        Atom::Sub(self.smaller, self.larger)
+    }
 
     fn is_bad(&self, _label: u8, marks: u8) -> bool {
         has_mark(marks, self.smaller) && !has_mark(marks, self.larger)

@@ -1,5 +1,5 @@
 // How a part of a tree stands to "i's one node is above j's one node".
-#[derive(Clone, Copy)]
+#[derive(Clone, Copy, PartialEq, Eq, Debug)]
 pub enum Standing {
     // no node of either track
     Neither,

@@ -7,5 +7,5 @@ mod making;
 mod trait_machine;
 
 pub use guard::{asks_inner, asks_leaf};
-pub use making::refused;
+pub use making::{check, refused};
 pub use trait_machine::Machine;

@@ -1,5 +1,6 @@
 // Refusals to make a machine.
-ghost use Rattle.std.specs.Prelude.{◌≡◌};
+ghost use Rattle.std.specs.Prelude.{◌≡◌, None};
+ghost use Rattle.trees.specs.Reading.{check, outcome};
 ghost use Rattle.machine.specs.Making.{refusal};
 
 use trees::{Origin, Reason, Refusal};
@@ -12,4 +13,11 @@ pub fn refused(reason: Reason) -> Refusal
         place: 0,
         origin: Origin::Machines,
     }
+}
+
+// Refuses where the test fails.
+pub fn check(passed: bool, reason: Reason) -> Result<(), Refusal>
+    ensures { result ≡ outcome (check passed (refusal reason) None) }
+{
+    if passed { Ok(()) } else { Err(refused(reason)) }
 }

@@ -1,7 +1,7 @@
 use Rattle.std.proofs.Common.{rules}
 use Rattle.atoms.specs.Making.{asked}
 use Rattle.atoms.proofs.Made.{made}
-use Rattle.atoms.proofs.atom.check_atom.Goals as goal
+use Rattle.atoms.proofs.atom.Atom.check.Goals as goal
 
 pub returns : goal.returns
-returns c = made c.args.shape (asked c.args.atom) (search rules)
+returns c = made c.args.shape (asked c.args.self) (search rules)
