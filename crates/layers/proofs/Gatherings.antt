@@ -96,13 +96,16 @@ module _ (c : ℕ) (G : ℕ → ℕ → Bool) where
       sum_is (gathered c G X) c s i.below
       (λ k l. sym (or_none (bit k s)) ∙ (ap (λ (b : Bool). bit k s || b) (sym (gathered_none Y k none)) ∙ i.whole k l))
 
--- a test of the members, from what it found
-pub any_is : (c X : ℕ) (F : ℕ → Bool) (r : Bool) → X < 2 ^ c
+-- a test of the members, from what it found: past c there is no hit
+pub any_is : (c X : ℕ) (F : ℕ → Bool) (r : Bool) → ((x : ℕ) → c ≤ x → F x ≡ false)
     → MatchBool r ((k : ℕ) × (bit k X ≡ true) × (F k ≡ true)) ((k : ℕ) → bit k X ≡ true → F k ≡ false)
     → r ≡ any c (λ x. bit x X && F x)
-any_is c X F true h (k, e, f) =
-    sym (told _ (any_in c _ k (member_below k c X h e) ((and_iff (bit k X) _).1 (holds (bit k X) e, holds (F k) f))))
-any_is c X F false h w =
+any_is c X F true out (k, e, f) = go (cases_lt k c)
+  where
+    go : (k < c) ⊎ (c ≤ k) → true ≡ any c (λ x. bit x X && F x)
+    go (inl l) = sym (told _ (any_in c _ k l ((and_iff (bit k X) _).1 (holds (bit k X) e, holds (F k) f))))
+    go (inr l) = absurd (both_ways (F k) (out k l) f)
+any_is c X F false out w =
     same_test false _ (λ z. absurd z)
     (λ z.
     let u = any_of c _ z in

@@ -1,5 +1,5 @@
 -- What a layer accepts that was made.
-use Rattle.std.proofs.Common.{◌≡◌, ℕ, ◌<◌, ◌≤◌, Bool, true, false, ◌&&◌, ◌||◌, T, ltb, leb, ◌⊎◌, ◌↔◌, None, Option, sym, refl, subst, arith}
+use Rattle.std.proofs.Common.{◌≡◌, ℕ, ◌<◌, ◌≤◌, Bool, true, false, T, ltb, leb, ◌↔◌, None, Option, sym, refl, ap, ◌∙◌, subst, arith}
 use Rattle.std.proofs.lemmas.Bool.{ltb-true, lt-ltb, and_from}
 use Rattle.trees.specs.declared.refusal.Refusal.{Refusal}
 use Rattle.trees.specs.Nodes.{Nodes, put}
@@ -8,26 +8,21 @@ use Rattle.trees.specs.Shapes.{Limited}
 use Rattle.trees.proofs.Limits.{bounds}
 use Rattle.automata.specs.Automata.{Automaton, Lawful, accepts}
 use Rattle.automata.specs.Layers.{some_layer}
-use Rattle.automata.proofs.Products.{both_accepts, either_accepts}
+use Rattle.automata.proofs.Products.{pair_accepts}
 use Rattle.automata.proofs.Projections.{some_accepts}
 use Rattle.layers.specs.Fitted.{fitted_is}
-use Rattle.layers.specs.Product.{MadePair, MadeBoth, MadeEither}
+use Rattle.layers.specs.Product.{MadePair, MadeJoined}
 use Rattle.layers.specs.Projection.{some_fits, some_refusal, some_meaning, MadeSome}
 
-module _ (A B : Automaton) (okA : Lawful A) (okB : Lawful B) (N : Automaton) where
-  pub made_both : MadePair ◌&&◌ A B N → MadeBoth A B N
-  made_both made = record {
-    due = made.due;
-    layer = made.layer;
-    accepted = λ t h. subst (λ (L : Automaton). T (accepts L t) ↔ (T (accepts A t) × T (accepts B t))) (sym made.layer) (both_accepts A B okA okB t h);
-  }
-
-  pub made_either : MadePair ◌||◌ A B N → MadeEither A B N
-  made_either made = record {
-    due = made.due;
-    layer = made.layer;
-    accepted = λ t h. subst (λ (L : Automaton). T (accepts L t) ↔ (T (accepts A t) ⊎ T (accepts B t))) (sym made.layer) (either_accepts A B okA okB t h);
-  }
+pub made_joined : (op : Bool → Bool → Bool) (joins : Type 0 → Type 0 → Type 0) → ((a b : Bool) → T (op a b) ↔ joins (T a) (T b))
+    → (A B : Automaton) → Lawful A → Lawful B → (N : Automaton) → MadePair op A B N → MadeJoined op joins A B N
+made_joined op joins joined A B okA okB N made = record {
+  due = made.due;
+  layer = made.layer;
+  accepted = λ t h.
+      let e : accepts N t ≡ op (accepts A t) (accepts B t) = ap (λ (L : Automaton). accepts L t) made.layer ∙ pair_accepts op A B okA okB t h in
+      subst (λ (b : Bool). T b ↔ joins (T (accepts A t)) (T (accepts B t))) (sym e) (joined (accepts A t) (accepts B t));
+}
 
 passed : (ok : Bool) (e : Refusal) (rest : Option Refusal) → check ok e rest ≡ None → (ok ≡ true) × (rest ≡ None)
 passed true e rest h = (refl, h)

@@ -7,8 +7,9 @@
 --   pair_meaning op A B  the product where it fits, else idle
 --   product_meaning      what a Product means, by its connective and what the machines below mean
 --   MadePair op A B N    N is the product of A and B, its finals joined by op
---   MadeBoth A B N       and so accepts exactly the trees that both accept
---   MadeEither A B N     and so accepts exactly the trees that one of them accepts
+--   MadeJoined op joins A B N    and so accepts exactly the trees of which "A accepts it" and "B accepts it", joined, hold
+--   MadeBoth A B N       so those that both accept
+--   MadeEither A B N     so those that one of them accepts
 use Rattle.std.specs.Prelude.{◌≡◌, ℕ, ◌*◌, ◌^◌, Bool, cond, ◌&&◌, ◌||◌, T, ◌⊎◌, ◌↔◌, Some, None, Option, ◌==◌, nat_le}
 use Rattle.std.proofs.lemmas.Bool.{leb-true}
 use Rattle.trees.specs.declared.shape.Shape.{Shape}
@@ -50,12 +51,13 @@ pub record MadePair (op : Bool → Bool → Bool) (A B N : Automaton) : Type 0 w
   pub due : pair_refusal A B ≡ None
   pub layer : N ≡ pair_layer op A B
 
-pub record MadeBoth (A B N : Automaton) : Type 0 where
+pub record MadeJoined (op : Bool → Bool → Bool) (joins : Type 0 → Type 0 → Type 0) (A B N : Automaton) : Type 0 where
   pub due : pair_refusal A B ≡ None
-  pub layer : N ≡ pair_layer ◌&&◌ A B
-  pub accepted : (t : Tree) → Shaped A.shape t → T (accepts N t) ↔ (T (accepts A t) × T (accepts B t))
+  pub layer : N ≡ pair_layer op A B
+  pub accepted : (t : Tree) → Shaped A.shape t → T (accepts N t) ↔ joins (T (accepts A t)) (T (accepts B t))
 
-pub record MadeEither (A B N : Automaton) : Type 0 where
-  pub due : pair_refusal A B ≡ None
-  pub layer : N ≡ pair_layer ◌||◌ A B
-  pub accepted : (t : Tree) → Shaped A.shape t → T (accepts N t) ↔ (T (accepts A t) ⊎ T (accepts B t))
+abbrev pub MadeBoth : Automaton → Automaton → Automaton → Type 0
+MadeBoth = MadeJoined ◌&&◌ (λ P Q. P × Q)
+
+abbrev pub MadeEither : Automaton → Automaton → Automaton → Type 0
+MadeEither = MadeJoined ◌||◌ (λ P Q. P ⊎ Q)

@@ -8,7 +8,7 @@
 --   row_set, row_code   that which x gives with the members of Y
 --   rows_code           that which the members of X give with those of Y
 --   inner_code i M      the same, at the two values of track i
---   HasFinal M X        a member of X is final; NoneFinal M X, none is
+--   has_final M X       a member of X is final
 --   some_meaning i M    the projection where it fits, else idle
 --   exists_meaning      what an Exists means, by what the machine below means
 --   MadeSome i M N      N is M with track i projected away: it accepts exactly the trees that some set, put in the track, makes one that M accepts
@@ -21,7 +21,7 @@ use Rattle.trees.specs.Shapes.{Limited}
 use Rattle.trees.specs.Trees.{Tree, Shaped}
 use Rattle.trees.specs.Nodes.{Nodes, bit, put_bit, put}
 use Rattle.automata.specs.Automata.{Automaton, Lawful, accepts}
-use Rattle.automata.specs.Layers.{sum_of, given, some_layer}
+use Rattle.automata.specs.Layers.{sum_of, any, given, some_layer}
 use Rattle.automata.proofs.Projections.{some_lawful}
 use Rattle.machine.specs.Making.{refusal}
 use Rattle.layers.specs.declared.projection.Exists.{Exists}
@@ -59,11 +59,8 @@ rows_code M a p q X Y = sum_of (gathered M.count (row_set M a p q Y) X) M.count
 abbrev pub inner_code : ℕ → Automaton → ℕ → ℕ → ℕ → ℕ → ℕ
 inner_code i M a m X Y = rows_code M a (put_bit i false m) (put_bit i true m) X Y
 
-abbrev pub HasFinal : Automaton → ℕ → Type 0
-HasFinal M X = (k : ℕ) × (bit k X ≡ true) × (M.final k ≡ true)
-
-abbrev pub NoneFinal : Automaton → ℕ → Type 0
-NoneFinal M X = (k : ℕ) → bit k X ≡ true → M.final k ≡ false
+abbrev pub has_final : Automaton → ℕ → Bool
+has_final M X = any M.count (λ x. bit x X && M.final x)
 
 abbrev pub some_meaning : ℕ → Automaton → Automaton
 some_meaning i M = fitted (some_fits i M) (some_layer i M)

@@ -5,6 +5,7 @@ mod complement;
 mod members;
 mod product;
 mod projection;
+mod set_codes;
 
 pub use complement::Not;
 pub use product::{And, Both, Connective, Either, Or, Product, same_shape};

@@ -1,8 +1,9 @@
 // Product: two machines side by side, their finals joined by a connective.
-ghost use Rattle.std.specs.Prelude.{◌≡◌, ◌+◌, ◌*◌, ◌^◌, ◌<◌, Bool, ◌&&◌, ◌||◌, if◌then◌else◌, Some, None, MatchResult, nat_le};
-ghost use Rattle.layers.specs.Product.{same_shape, pair_counts, pair_refusal, product_meaning, pair_meaning_lawful, MadePair, MadeBoth, MadeEither};
+ghost use Rattle.std.specs.Prelude.{◌≡◌, ◌+◌, ◌*◌, ◌^◌, ◌<◌, Bool, ◌&&◌, ◌||◌, T, ◌⊎◌, ◌↔◌, if◌then◌else◌, Some, None, MatchResult, nat_le};
+ghost use Rattle.automata.proofs.Tests.{and_iff, or_iff};
+ghost use Rattle.layers.specs.Product.{same_shape, pair_counts, pair_refusal, product_meaning, pair_meaning_lawful, MadePair, MadeJoined};
 
-use machine::{Machine, asks_inner, asks_leaf, refused};
+use machine::{Machine, asks_inner, asks_leaf, check, refused};
 use trees::{Reason, Refusal, Shape};
 
 // The most codes that a machine may have.
@@ -12,18 +13,27 @@ const MOST_CODES: u64 = 0x1_0000_0000;
 pub trait Connective {
     ghost op: { Bool → Bool → Bool };
 
+    // what it makes of two statements
+    ghost joins: { Type 0 → Type 0 → Type 0 };
+
     fn join(&self, left: bool, right: bool) -> bool
         ensures { result ≡ op left right };
+
+    ghost joined: { (a b : Bool) → T (op a b) ↔ joins (T a) (T b) };
 }
 
-#[derive(Clone, Copy)]
+#[derive(Clone, Copy, Default, PartialEq, Eq, Debug)]
 pub struct And;
 
-#[derive(Clone, Copy)]
+#[derive(Clone, Copy, Default, PartialEq, Eq, Debug)]
 pub struct Or;
 
 impl Connective for And {
     ghost op = { ◌&&◌ };
+
+    ghost joins = { λ P Q. P × Q };
+
+    ghost joined = { and_iff };
 
     fn join(&self, left: bool, right: bool) -> bool {
         left && right
@@ -32,6 +42,10 @@ impl Connective for And {
 
 impl Connective for Or {
     ghost op = { ◌||◌ };
+
+    ghost joins = { λ P Q. P ⊎ Q };
+
+    ghost joined = { or_iff };
 
     fn join(&self, left: bool, right: bool) -> bool {
         left || right
@@ -54,23 +68,14 @@ pub type Either<A, B> = Product<Or, A, B>;
 fn codes(left: u64, right: u64) -> Option<u64>
     ensures { result ≡ (if nat_le (left * right) (2 ^ 32) then Some (left * right) else None) }
 {
-    match left.checked_mul(right) {
-        Some(codes) if codes <= MOST_CODES => Some(codes),
-        _ => None,
-    }
-}
-
-fn same(left: Shape, right: Shape) -> bool
-    ensures { result ≡ same_shape left right }
-{
-    left == right
+    left.checked_mul(right).filter(|codes| *codes <= MOST_CODES)
 }
 
 // Whether two machines are over the same trees.
 pub fn same_shape(left: Shape, right: Shape) -> bool
     ensures { result ≡ same_shape left right }
 {
-    same(left, right)
+    left == right
 }
 
 // The code of a pair, where the right machine has `width` codes.
@@ -86,12 +91,9 @@ impl<C: Connective + Drop, A: Machine + Drop, B: Machine + Drop> Product<C, A, B
     pub fn of(connective: C, left: A, right: B) -> Result<Product<C, A, B>, Refusal>
         ensures { MatchResult result (λ n. MadePair C.Connective.op (A.Machine.meaning left) (B.Machine.meaning right) (product_meaning C.Connective.op A.Machine.meaning B.Machine.meaning n)) (λ e. pair_refusal (A.Machine.meaning left) (B.Machine.meaning right) ≡ Some e) }
     {
-        if !same(left.shape(), right.shape()) {
-            return Err(refused(Reason::ShapesDiffer));
-        }
-        if codes(left.count(), right.count()).is_none() {
-            return Err(refused(Reason::CountTooLarge));
-        }
+        let same = same_shape(left.shape(), right.shape());
+        check(same, Reason::ShapesDiffer)?;
+        codes(left.count(), right.count()).ok_or(refused(Reason::CountTooLarge))?;
         Ok(Product {
             connective,
             left,
@@ -100,19 +102,11 @@ impl<C: Connective + Drop, A: Machine + Drop, B: Machine + Drop> Product<C, A, B
     }
 }
 
-impl<A: Machine + Drop, B: Machine + Drop> Product<And, A, B> {
-    pub fn new(left: A, right: B) -> Result<Both<A, B>, Refusal>
-        ensures { MatchResult result (λ n. MadeBoth (A.Machine.meaning left) (B.Machine.meaning right) (product_meaning ◌&&◌ A.Machine.meaning B.Machine.meaning n)) (λ e. pair_refusal (A.Machine.meaning left) (B.Machine.meaning right) ≡ Some e) }
+impl<C: Connective + Default + Drop, A: Machine + Drop, B: Machine + Drop> Product<C, A, B> {
+    pub fn new(left: A, right: B) -> Result<Product<C, A, B>, Refusal>
+        ensures { MatchResult result (λ n. MadeJoined C.Connective.op C.Connective.joins (A.Machine.meaning left) (B.Machine.meaning right) (product_meaning C.Connective.op A.Machine.meaning B.Machine.meaning n)) (λ e. pair_refusal (A.Machine.meaning left) (B.Machine.meaning right) ≡ Some e) }
     {
-        Product::of(And, left, right)
-    }
-}
-
-impl<A: Machine + Drop, B: Machine + Drop> Product<Or, A, B> {
-    pub fn new(left: A, right: B) -> Result<Either<A, B>, Refusal>
-        ensures { MatchResult result (λ n. MadeEither (A.Machine.meaning left) (B.Machine.meaning right) (product_meaning ◌||◌ A.Machine.meaning B.Machine.meaning n)) (λ e. pair_refusal (A.Machine.meaning left) (B.Machine.meaning right) ≡ Some e) }
-    {
-        Product::of(Or, left, right)
+        Product::of(C::default(), left, right)
     }
 }
 
@@ -138,10 +132,7 @@ impl<C: Connective, A: Machine, B: Machine> Machine for Product<C, A, B> {
     }
 
     fn count(&self) -> u64 {
-        match self.counts() {
-            Some((codes, _)) => codes,
-            None => 1,
-        }
+        self.counts().map_or(1, |(codes, _)| codes)
     }
 
     fn leaf(&self, label: u8, marks: u8) -> u64 {
