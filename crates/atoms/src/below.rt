@@ -5,7 +5,6 @@ ghost use Rattle.automata.specs.Atoms.{below_step};
 
 use crate::atom::Atom;
 use crate::related::{Related, Relation};
-use crate::standings::{alone, beside, met};
 use automata::Standing;
 
 #[derive(Clone, Copy, Default, PartialEq, Eq, Debug)]
@@ -25,11 +24,11 @@ impl Relation for Descendant {
     }
 
     fn join(&self, upper: bool, lower: bool, left: Standing, right: Standing) -> Standing {
-        let parts = beside(left, right);
+        let parts = left.beside(right);
         match (upper, lower) {
             (false, false) => parts,
-            (false, true) => alone(parts),
-            (true, false) => met(parts),
+            (false, true) => parts.alone(),
+            (true, false) => parts.met(),
             (true, true) => Standing::Dead,
         }
     }

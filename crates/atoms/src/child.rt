@@ -2,7 +2,6 @@
 ghost use Rattle.std.specs.Prelude.{◌≡◌};
 ghost use Rattle.automata.specs.Atoms.{left_step};
 
-use crate::standings::{alone, beside, met, passed};
 use automata::Standing;
 
 // `near` is the part on the side that the relation names, `far` the other. Left names the left part.
@@ -10,9 +9,9 @@ pub fn child_step(upper: bool, lower: bool, near: Standing, far: Standing) -> St
     ensures { result ≡ left_step upper lower near far }
 {
     match (upper, lower) {
-        (false, false) => beside(passed(near), passed(far)),
-        (false, true) => alone(beside(near, far)),
-        (true, false) => met(beside(near, passed(far))),
+        (false, false) => near.passed().beside(far.passed()),
+        (false, true) => near.beside(far).alone(),
+        (true, false) => near.beside(far.passed()).met(),
         (true, true) => Standing::Dead,
     }
 }

@@ -11,7 +11,6 @@ mod marks;
 mod related;
 mod right;
 mod sing;
-mod standings;
 mod sub;
 
 pub use atom::Atom;

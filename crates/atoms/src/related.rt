@@ -11,7 +11,6 @@ ghost use Rattle.atoms.specs.Meanings.{related_meaning};
 
 use crate::atom::Atom;
 use crate::marks::has_mark;
-use crate::standings::{leaf_standing, number_of, standing_of};
 use automata::Standing;
 use machine::{Machine, asks_inner, asks_leaf};
 use trees::{Refusal, Shape};
@@ -71,8 +70,8 @@ impl<R: Relation> Machine for Related<R> {
         if !asks_leaf(self.shape, label, marks) || self.upper == self.lower {
             return 0;
         }
-        let part = leaf_standing(has_mark(marks, self.upper), has_mark(marks, self.lower));
-        number_of(self.upper < self.lower, part)
+        let part = Standing::of_leaf(has_mark(marks, self.upper), has_mark(marks, self.lower));
+        part.number(self.upper < self.lower)
     }
 
     fn inner(&self, label: u8, marks: u8, left: u64, right: u64) -> u64 {
@@ -85,10 +84,10 @@ impl<R: Relation> Machine for Related<R> {
         let part = self.relation.join(
             has_mark(marks, self.upper),
             has_mark(marks, self.lower),
-            standing_of(upper_first, left),
-            standing_of(upper_first, right),
+            Standing::of_number(upper_first, left),
+            Standing::of_number(upper_first, right),
         );
-        number_of(upper_first, part)
+        part.number(upper_first)
     }
 
     fn is_final(&self, code: u64) -> bool {
