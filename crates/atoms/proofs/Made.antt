@@ -2,9 +2,8 @@
 use Rattle.std.proofs.Common.{◌≡◌, ℕ, ◌+◌, ◌<◌, Bool, true, false, ◌&&◌, ltb, None, Option, refl, arith}
 use Rattle.std.proofs.lemmas.Bool.{ltb-true, and_parts}
 use Rattle.trees.specs.declared.shape.Shape.{Shape}
-use Rattle.trees.specs.declared.refusal.Refusal.{Refusal}
 use Rattle.trees.specs.Shapes.{limits}
-use Rattle.trees.specs.Reading.{check}
+use Rattle.trees.proofs.Turns.{passed}
 use Rattle.automata.specs.Rules.{Atom, sub, lab, sing, left_of, right_of, below, AtomFits}
 use Rattle.automata.specs.Atoms.{atom_automaton}
 use Rattle.automata.proofs.AtomAutomata.{atom_accepts}
@@ -21,11 +20,6 @@ fits sh (sing i) h l = ltb-true i sh.tracks h
 fits sh (left_of i j) h l = both_below i j sh.tracks h
 fits sh (right_of i j) h l = both_below i j sh.tracks h
 fits sh (below i j) h l = both_below i j sh.tracks h
-
--- a check in the chain passes where no refusal is due
-passed : (ok : Bool) (e : Refusal) (rest : Option Refusal) → check ok e rest ≡ None → (ok ≡ true) × (rest ≡ None)
-passed true e rest h = (refl, h)
-passed false e rest h = absurd (grind arith)
 
 is_made : (sh : Shape) (A : Atom) → atom_refusal sh A ≡ None → MadeAtom sh A (atom_automaton sh A)
 is_made sh A due =

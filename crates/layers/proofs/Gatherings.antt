@@ -1,7 +1,9 @@
 -- A loop over the members of a set: what it has gathered, and what the members that are left have to give, make the whole.
 use Rattle.std.proofs.Common.{◌≡◌, ℕ, ◌^◌, ◌<◌, ◌≤◌, Bool, true, false, ◌&&◌, ◌||◌, T, ◌⊎◌, MatchBool, sym, refl, ap, ◌∙◌, subst, ap₂, inl, inr, arith, pow_pos}
 use lib.Bits.{bit_or, or_lt}
+use Rattle.std.proofs.Math.Bool.{or_assoc, or-false}
 use Rattle.std.proofs.lemmas.Bool.{cases_lt, both_ways}
+use Rattle.std.proofs.lemmas.Float.{T_from_true}
 use Rattle.trees.specs.Nodes.{bit}
 use Rattle.trees.proofs.Bits.{bit_none, bit_zero}
 use Rattle.automata.specs.Layers.{sum_of, any}
@@ -9,9 +11,6 @@ use Rattle.automata.proofs.Tests.{and_iff, or_iff}
 use Rattle.automata.proofs.CodeSets.{sum_lt, bit_sum, any_in, any_of}
 use Rattle.layers.specs.Sets.{gathered, Empty, Took}
 use Rattle.layers.proofs.Sets.{sum_is, bit_of_or}
-
-holds : (b : Bool) → b ≡ true → T b
-holds b e = subst T (sym e) tt
 
 told : (b : Bool) → T b → b ≡ true
 told true h = refl
@@ -23,14 +22,6 @@ same_test true false f g = absurd (f tt)
 same_test false true f g = absurd (g tt)
 same_test false false f g = refl
 
-or_assoc : (a b d : Bool) → ((a || b) || d) ≡ (a || (b || d))
-or_assoc true b d = refl
-or_assoc false b d = refl
-
-or_none : (a : Bool) → (a || false) ≡ a
-or_none true = refl
-or_none false = refl
-
 member_below : (x c X : ℕ) → X < 2 ^ c → bit x X ≡ true → x < c
 member_below x c X h e = go (cases_lt x c)
   where
@@ -40,7 +31,7 @@ member_below x c X h e = go (cases_lt x c)
 
 module _ (c : ℕ) (G : ℕ → ℕ → Bool) where
   gathered_in : (X x k : ℕ) → X < 2 ^ c → bit x X ≡ true → T (G x k) → T (gathered c G X k)
-  gathered_in X x k h e g = any_in c _ x (member_below x c X h e) ((and_iff (bit x X) _).1 (holds (bit x X) e, g))
+  gathered_in X x k h e g = any_in c _ x (member_below x c X h e) ((and_iff (bit x X) _).1 (T_from_true (bit x X) e, g))
 
   gathered_of : (X k : ℕ) → T (gathered c G X k) → (x : ℕ) × (bit x X ≡ true) × T (G x k)
   gathered_of X k h =
@@ -94,7 +85,7 @@ module _ (c : ℕ) (G : ℕ → ℕ → Bool) where
   pub gathering_all : (X s Y : ℕ) → Gathering X s Y → Empty Y → s ≡ sum_of (gathered c G X) c
   gathering_all X s Y i none =
       sum_is (gathered c G X) c s i.below
-      (λ k l. sym (or_none (bit k s)) ∙ (ap (λ (b : Bool). bit k s || b) (sym (gathered_none Y k none)) ∙ i.whole k l))
+      (λ k l. sym (or-false (bit k s)) ∙ (ap (λ (b : Bool). bit k s || b) (sym (gathered_none Y k none)) ∙ i.whole k l))
 
 -- a test of the members, from what it found: past c there is no hit
 pub any_is : (c X : ℕ) (F : ℕ → Bool) (r : Bool) → ((x : ℕ) → c ≤ x → F x ≡ false)
@@ -103,7 +94,7 @@ pub any_is : (c X : ℕ) (F : ℕ → Bool) (r : Bool) → ((x : ℕ) → c ≤ 
 any_is c X F true out (k, e, f) = go (cases_lt k c)
   where
     go : (k < c) ⊎ (c ≤ k) → true ≡ any c (λ x. bit x X && F x)
-    go (inl l) = sym (told _ (any_in c _ k l ((and_iff (bit k X) _).1 (holds (bit k X) e, holds (F k) f))))
+    go (inl l) = sym (told _ (any_in c _ k l ((and_iff (bit k X) _).1 (T_from_true (bit k X) e, T_from_true (F k) f))))
     go (inr l) = absurd (both_ways (F k) (out k l) f)
 any_is c X F false out w =
     same_test false _ (λ z. absurd z)

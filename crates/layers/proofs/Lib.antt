@@ -1,4 +1,3 @@
-pub mod Pairs
 pub mod Sets
 pub mod Least
 pub mod Tracks

@@ -1,11 +1,10 @@
 -- What a layer accepts that was made.
 use Rattle.std.proofs.Common.{◌≡◌, ℕ, ◌<◌, ◌≤◌, Bool, true, false, T, ltb, leb, ◌↔◌, None, Option, sym, refl, ap, ◌∙◌, subst, arith}
 use Rattle.std.proofs.lemmas.Bool.{ltb-true, lt-ltb, and_from}
-use Rattle.trees.specs.declared.refusal.Refusal.{Refusal}
 use Rattle.trees.specs.Nodes.{Nodes, put}
-use Rattle.trees.specs.Reading.{check}
 use Rattle.trees.specs.Shapes.{Limited}
 use Rattle.trees.proofs.Limits.{bounds}
+use Rattle.trees.proofs.Turns.{passed}
 use Rattle.automata.specs.Automata.{Automaton, Lawful, accepts}
 use Rattle.automata.specs.Layers.{some_layer}
 use Rattle.automata.proofs.Products.{pair_accepts}
@@ -23,10 +22,6 @@ made_joined op joins joined A B okA okB N made = record {
       let e : accepts N t ≡ op (accepts A t) (accepts B t) = ap (λ (L : Automaton). accepts L t) made.layer ∙ pair_accepts op A B okA okB t h in
       subst (λ (b : Bool). T b ↔ joins (T (accepts A t)) (T (accepts B t))) (sym e) (joined (accepts A t) (accepts B t));
 }
-
-passed : (ok : Bool) (e : Refusal) (rest : Option Refusal) → check ok e rest ≡ None → (ok ≡ true) × (rest ≡ None)
-passed true e rest h = (refl, h)
-passed false e rest h = absurd (grind arith)
 
 module _ (i : ℕ) (M : Automaton) (ok : Lawful M) (none : some_refusal i M ≡ None) where
   fits : Limited M.shape → some_fits i M ≡ true
