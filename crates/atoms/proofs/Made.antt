@@ -1,6 +1,6 @@
 -- Where no refusal is due, the automaton of the atom accepts the trees of which the atom holds, and its codes are its states.
-use Rattle.std.proofs.Common.{◌≡◌, ℕ, ◌+◌, ◌<◌, Bool, true, false, ◌&&◌, ltb, None, Option, refl, arith}
-use Rattle.std.proofs.lemmas.Bool.{ltb-true, and_parts}
+use Rattle.std.proofs.Common.{◌≡◌, ℕ, ◌+◌, ◌<◌, true, ◌&&◌, ltb, None, refl, rules}
+use Rattle.std.proofs.lemmas.Bool.{ltb-true}
 use Rattle.trees.specs.declared.shape.Shape.{Shape}
 use Rattle.trees.specs.Shapes.{limits}
 use Rattle.trees.proofs.Turns.{passed}
@@ -11,7 +11,7 @@ use Rattle.automata.proofs.AtomStates.{atom_states}
 use Rattle.atoms.specs.Making.{tracks_fit, label_fits, atom_refusal, MadeAtom}
 
 both_below : (i j k : ℕ) → (ltb i k && ltb j k) ≡ true → (i < k) × (j < k)
-both_below i j k h = let p = and_parts (ltb i k) (ltb j k) h in (ltb-true i k p.0, ltb-true j k p.1)
+both_below i j k h = search rules
 
 fits : (sh : Shape) (A : Atom) → tracks_fit sh A ≡ true → label_fits sh A ≡ true → AtomFits sh A
 fits sh (sub i j) h l = both_below i j sh.tracks h

@@ -27,6 +27,7 @@ pub trait NodeRule {
 
     ghost means: { (r : Self) (sh : Shape) → atom_automaton sh (atom r) ≡ every_automaton sh (if trivial r then 1 else 2) (bad r) };
 
+    // Two tracks, or a track and a label.
     fn of(first: usize, second: usize) -> Self
         ensures { atom result ≡ asks first second };
 

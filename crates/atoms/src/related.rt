@@ -90,6 +90,7 @@ impl<R: Relation> Machine for Related<R> {
         part.number(upper_first)
     }
 
+    // 3 is the number of `Done`, whichever track is first.
     fn is_final(&self, code: u64) -> bool {
         self.upper != self.lower && code == 3
     }

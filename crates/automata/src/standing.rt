@@ -27,6 +27,7 @@ impl Standing {
     }
 
     // Codes are numbered as first met: of two leaves with one mark each, the one with the smaller mark comes first.
+    // That is an order of two tracks and no choice of what to do, so it stays a `bool`, as in the definition.
     pub fn number(self, upper_first: bool) -> u64
         ensures { result ≡ Atoms.number upper_first self }
     {

@@ -1,5 +1,5 @@
 -- A loop over the members of a set: what it has gathered, and what the members that are left have to give, make the whole.
-use Rattle.std.proofs.Common.{◌≡◌, ℕ, ◌^◌, ◌<◌, ◌≤◌, Bool, true, false, ◌&&◌, ◌||◌, T, ◌⊎◌, MatchBool, sym, refl, ap, ◌∙◌, subst, ap₂, inl, inr, arith, pow_pos}
+use Rattle.std.proofs.Common.{◌≡◌, ℕ, ◌^◌, ◌<◌, ◌≤◌, Bool, true, false, ◌&&◌, ◌||◌, T, ◌⊎◌, MatchBool, sym, ap, ◌∙◌, subst, ap₂, inl, inr, arith, pow_pos, rules}
 use lib.Bits.{bit_or, or_lt}
 use Rattle.std.proofs.Math.Bool.{or_assoc, or-false}
 use Rattle.std.proofs.lemmas.Bool.{cases_lt, both_ways}
@@ -13,21 +13,13 @@ use Rattle.layers.specs.Sets.{gathered, Empty, Took}
 use Rattle.layers.proofs.Sets.{sum_is, bit_of_or}
 
 told : (b : Bool) → T b → b ≡ true
-told true h = refl
-told false h = absurd h
+told b h = search rules
 
 same_test : (a b : Bool) → (T a → T b) → (T b → T a) → a ≡ b
-same_test true true f g = refl
-same_test true false f g = absurd (f tt)
-same_test false true f g = absurd (g tt)
-same_test false false f g = refl
+same_test a b f g = search rules
 
 member_below : (x c X : ℕ) → X < 2 ^ c → bit x X ≡ true → x < c
-member_below x c X h e = go (cases_lt x c)
-  where
-    go : (x < c) ⊎ (c ≤ x) → x < c
-    go (inl l) = l
-    go (inr l) = absurd (both_ways (bit x X) (bit_none x c X l h) e)
+member_below x c X h e = grind (arith, bit_none)
 
 module _ (c : ℕ) (G : ℕ → ℕ → Bool) where
   gathered_in : (X x k : ℕ) → X < 2 ^ c → bit x X ≡ true → T (G x k) → T (gathered c G X k)

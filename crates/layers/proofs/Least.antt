@@ -1,7 +1,7 @@
 -- The least member of a set, and the set without it.
-use Rattle.std.proofs.Common.{◌≡◌, ℕ, zero, suc, ◌+◌, ◌-◌, ◌*◌, ◌/◌, ◌%◌, ◌^◌, ◌<◌, ◌≤◌, Bool, true, false, cond, eqb, ◌⊎◌, sym, refl, ap, ◌∙◌, inl, inr, div-one, arith, pow_pos, shr-shr}
+use Rattle.std.proofs.Common.{◌≡◌, ℕ, zero, suc, ◌+◌, ◌-◌, ◌*◌, ◌/◌, ◌%◌, ◌^◌, ◌<◌, ◌≤◌, true, false, ◌⊎◌, sym, refl, ap, ◌∙◌, inl, inr, div-one, arith, pow_pos, shr-shr}
 use lib.Count.{under, count_trailing_zeros}
-use Rattle.std.proofs.lemmas.Bool.{cases_lt, cases_eq, both_ways}
+use Rattle.std.proofs.lemmas.Bool.{cases_eq, both_ways}
 use Rattle.trees.specs.Nodes.{bit, put_bit}
 use Rattle.trees.proofs.Bits.{bit_small}
 use Rattle.trees.proofs.PutBits.{bit_put_same, bit_put_other}
@@ -23,18 +23,14 @@ lowest (suc k) n h l = go (lowest k (n / 2)) (n % 2) refl
 
 least_member : (k n : ℕ) → 0 < n → n < 2 ^ k → bit (count_trailing_zeros k n) n ≡ true
 unfolding bit
-least_member k n h l = ap (λ (d : ℕ). eqb d 1) (lowest k n h l)
+least_member k n h l = let d = lowest k n h l in grind arith
 
 pub member_fits : (x X : ℕ) → bit x X ≡ true → 2 ^ x ≤ X
-member_fits x X e = go (cases_lt X (2 ^ x))
-  where
-    go : (X < 2 ^ x) ⊎ (2 ^ x ≤ X) → 2 ^ x ≤ X
-    go (inl h) = absurd (both_ways (bit x X) (bit_small x X h) e)
-    go (inr h) = h
+member_fits x X e = grind (arith, bit_small)
 
 taken_out : (x X : ℕ) → bit x X ≡ true → put_bit x false X ≡ X - 2 ^ x
 unfolding put_bit
-taken_out x X e = ap (λ (b : Bool). cond b (X - 2 ^ x) X) e
+taken_out x X e = grind arith
 
 pub took : (x X : ℕ) → bit x X ≡ true → Took X x (X - 2 ^ x)
 took x X e = record {
@@ -45,14 +41,14 @@ took x X e = record {
 }
   where
     same : (k : ℕ) → (k ≡ x → ⊥) → bit k (X - 2 ^ x) ≡ bit k X
-    same k ne = ap (bit k) (sym (taken_out x X e)) ∙ bit_put_other x k false X ne
+    same k ne = grind (arith, taken_out x X e, bit_put_other)
 
     others : (k : ℕ) → bit k X ≡ true → (k ≡ x) ⊎ (k ≡ x → ⊥) → (k ≡ x) ⊎ (bit k (X - 2 ^ x) ≡ true)
     others k m (inl p) = inl p
     others k m (inr ne) = inr (same k ne ∙ m)
 
     gone : (k : ℕ) → k ≡ x → bit k (X - 2 ^ x) ≡ false
-    gone k p = ap (λ (j : ℕ). bit j (X - 2 ^ x)) p ∙ (ap (bit x) (sym (taken_out x X e)) ∙ bit_put_same x false X)
+    gone k p = grind (arith, taken_out x X e, bit_put_same)
 
     only : (k : ℕ) → bit k (X - 2 ^ x) ≡ true → (k ≡ x) ⊎ (k ≡ x → ⊥) → bit k X ≡ true
     only k m (inl p) = absurd (both_ways (bit k (X - 2 ^ x)) (gone k p) m)

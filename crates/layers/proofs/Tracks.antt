@@ -1,5 +1,5 @@
 -- Marks at the two values of a track, by operations on bits.
-use Rattle.std.proofs.Common.{◌≡◌, ℕ, ◌+◌, ◌-◌, ◌*◌, ◌/◌, ◌%◌, ◌^◌, Bool, true, false, cond, sym, refl, ap, ◌∙◌, one-mul, zero-mul, arith, pow-add}
+use Rattle.std.proofs.Common.{◌≡◌, ℕ, ◌+◌, ◌-◌, ◌*◌, ◌/◌, ◌%◌, ◌^◌, true, false, sym, ap, ◌∙◌, arith, pow-add}
 use lib.Bits.{bit_and, bit_or, bit_xor, and_high, or_add_and, xor_add_and}
 use Rattle.trees.specs.Nodes.{bit, put_bit}
 use Rattle.trees.proofs.PutBits.{bit_put_same}
@@ -12,27 +12,19 @@ and_one n i =
 
 and_in : (n i : ℕ) → bit i n ≡ true → bit_and n (2 ^ i) ≡ 2 ^ i
 unfolding bit
-and_in n i e = let d : n / 2 ^ i % 2 ≡ 1 = grind arith in and_one n i ∙ (ap (λ (x : ℕ). x * 2 ^ i) d ∙ one-mul (2 ^ i))
+and_in n i e = grind (arith, and_one n i)
 
 and_out : (n i : ℕ) → bit i n ≡ false → bit_and n (2 ^ i) ≡ 0
 unfolding bit
-and_out n i e = let d : n / 2 ^ i % 2 ≡ 0 = grind arith in and_one n i ∙ (ap (λ (x : ℕ). x * 2 ^ i) d ∙ zero-mul (2 ^ i))
+and_out n i e = grind (arith, and_one n i)
 
 pub present_is : (i m : ℕ) → bit_or m (2 ^ i) ≡ put_bit i true m
 unfolding put_bit
-present_is i m = go (bit i m) refl
-  where
-    go : (b : Bool) → bit i m ≡ b → bit_or m (2 ^ i) ≡ cond b m (m + 2 ^ i)
-    go true e = omega (arith, or_add_and m (2 ^ i), and_in m i e)
-    go false e = omega (arith, or_add_and m (2 ^ i), and_out m i e)
+present_is i m = grind (arith, or_add_and m (2 ^ i), and_in m i, and_out m i)
 
 back : (i m : ℕ) → put_bit i true m - 2 ^ i ≡ put_bit i false m
 unfolding put_bit
-back i m = go (bit i m)
-  where
-    go : (b : Bool) → cond b m (m + 2 ^ i) - 2 ^ i ≡ cond b (m - 2 ^ i) m
-    go true = refl
-    go false = omega arith
+back i m = grind arith
 
 pub absent_is : (i m : ℕ) → bit_xor (bit_or m (2 ^ i)) (2 ^ i) ≡ put_bit i false m
 absent_is i m =

@@ -1,7 +1,6 @@
 -- Projections.
 -- Words:
 --   some_fits i M       the codes of M are so few that a set of them is a code, and i is a bit of a byte
---   some_count i M      the count of those sets, where that holds
 --   some_refusal i M    the first refusal due to Some at track i over M: 6 where there is no such track, then 12 where the codes are too many
 --   leaf_code i M       the set of codes that a leaf gives at the two values of track i
 --   pair_set, pair_code    that which x and y give under label a, at the marks p and q: as a test, and as one number
@@ -12,7 +11,7 @@
 --   some_meaning i M    the projection where it fits, else idle
 --   exists_meaning      what an Exists means, by what the machine below means
 --   MadeSome i M N      N is M with track i projected away: it accepts exactly the trees that some set, put in the track, makes one that M accepts
-use Rattle.std.specs.Prelude.{◌≡◌, ℕ, ◌^◌, Bool, true, false, cond, ◌&&◌, T, ◌↔◌, Some, None, Option, nat_le, nat_lt}
+use Rattle.std.specs.Prelude.{◌≡◌, ℕ, Bool, true, false, ◌&&◌, T, ◌↔◌, None, Option, nat_le, nat_lt}
 use Rattle.std.proofs.lemmas.Bool.{leb-true, and_parts}
 use Rattle.trees.specs.declared.refusal.Refusal.{Refusal}
 use Rattle.trees.specs.declared.refusal.Reason.TheVariants.{NoSuchTrack, CountTooLarge}
@@ -30,9 +29,6 @@ use Rattle.layers.specs.Sets.{one_of, gathered}
 
 abbrev pub some_fits : ℕ → Automaton → Bool
 some_fits i M = nat_le M.count 32 && nat_lt i 8
-
-abbrev pub some_count : ℕ → Automaton → Option ℕ
-some_count i M = cond (some_fits i M) (Some (2 ^ M.count)) None
 
 abbrev pub some_refusal : ℕ → Automaton → Option Refusal
 some_refusal i M =

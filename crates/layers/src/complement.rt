@@ -5,7 +5,7 @@ ghost use Rattle.layers.specs.Complement.{not_meaning, MadeNot};
 use machine::Machine;
 use trees::Shape;
 
-#[derive_where(Clone, Copy; M)]
+#[derive_where(Clone, Copy, PartialEq, Eq, Debug; M)]
 pub struct Not<M> {
     of: M,
 }

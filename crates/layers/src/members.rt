@@ -1,4 +1,4 @@
-// Sets of codes below 64, each as one number: code k is a member where bit k is set.
+// Sets of codes below 64, each as one number, since a set is itself a code: code k is a member where bit k is set.
 ghost use Rattle.std.specs.Prelude.{◌≡◌, ◌^◌, ◌<◌, bit_or};
 ghost use Rattle.layers.specs.Sets.{Next};
 ghost use Rattle.std.specs.Iterator.{at_most};

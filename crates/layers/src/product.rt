@@ -53,7 +53,7 @@ impl Connective for Or {
 }
 
 // The code of a pair is the left code times the count of the right machine, plus the right code.
-#[derive_where(Clone, Copy; C, A, B)]
+#[derive_where(Clone, Copy, PartialEq, Eq, Debug; C, A, B)]
 pub struct Product<C, A, B> {
     connective: C,
     left: A,

@@ -6,7 +6,7 @@ use crate::set_codes::{MOST_BELOW, SetCodes};
 use machine::{Machine, asks_inner, asks_leaf, check};
 use trees::{Reason, Refusal, Shape};
 
-#[derive_where(Clone, Copy; M)]
+#[derive_where(Clone, Copy, PartialEq, Eq, Debug; M)]
 pub struct Exists<M> {
     of: M,
     track: usize,

@@ -5,6 +5,7 @@ ghost use Rattle.machine.specs.Making.{refusal};
 
 use trees::{Origin, Reason, Refusal};
 
+// A reason alone does not make a refusal, so there is no `From`: other layers have the same reasons with other origins.
 pub fn refused(reason: Reason) -> Refusal
     ensures { result ≡ refusal reason }
 {

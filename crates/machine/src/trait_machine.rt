@@ -6,6 +6,7 @@ use trees::Shape;
 
 // `meaning` is the five answers. `lawful` is owed of every value of the make, with no premise: each code answered is
 // below the count, and a question outside shape or count gets code 0 and "not final".
+// The questions are the subject's own: labels, marks and codes are numbers, and no question goes without an answer.
 pub trait Machine {
     ghost meaning: { Self → Automaton };
 
