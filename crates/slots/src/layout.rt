@@ -1,58 +1,66 @@
 // Where the bytes of a table stand.
-ghost use Rattle.std.specs.Prelude.{◌≡◌, ◌+◌, ◌/◌, ◌%◌, ◌^◌, ◌<◌, ◌≤◌};
+ghost use Rattle.std.specs.Prelude.{◌≡◌, ◌+◌, ◌/◌, ◌%◌, ◌^◌, ◌<◌, ◌≤◌, if◌then◌else◌, Some, None, MatchOption, true, false};
 ghost use Rattle.trees.specs.Shapes.{LeafLabel, InnerLabel, Marks};
 ghost use Rattle.tables.specs.Images.{leaf_rows, inner_rows, width, leaf_address, inner_address, fits, Fits};
 
 use trees::Shape;
 
-// The shape of a table, and the most states that it has room for.
-#[derive(Clone, Copy)]
+// The shape of a table, and the most states that it has room for, each within its limits.
+#[derive(Clone, Copy, PartialEq, Eq, Debug)]
 pub struct Layout {
     pub shape: Shape,
     pub most: usize,
+    pub ghost within: { Fits shape most },
 }
 
 impl Layout {
     pub const MOST_STATES: usize = 32;
 
-    pub fn fits(self) -> bool
-        ensures { result ≡ fits self.shape self.most }
+    // The layout of these numbers, or none where one is outside its limits.
+    pub fn new(shape: Shape, most: usize) -> Option<Layout>
+        ensures { MatchOption result (fits shape most ≡ false) (λ l. (fits shape most ≡ true) × ((l.shape ≡ shape) × (l.most ≡ most))) }
     {
         let Shape {
             leaves,
             inners,
             tracks,
-        } = self.shape;
-        Shape::new(leaves as usize, inners as usize, tracks as usize).is_some()
-            && self.most >= 1
-            && self.most <= Self::MOST_STATES
+        } = shape;
+        Shape::new(
+            usize::from(leaves),
+            usize::from(inners),
+            usize::from(tracks),
+        )?;
+        if most < 1 || most > Self::MOST_STATES {
+            return None;
+        }
+        Some(Layout { shape, most })
     }
 
     // The number of marks that a node may carry.
     pub fn marks(self) -> usize
-        requires { Fits self.shape self.most }
-        ensures { (result ≡ 2 ^ self.shape.tracks) × ((2 ≤ result) × (result ≤ 64)) }
+        ensures is { result ≡ 2 ^ self.shape.tracks }
+        ensures some { 2 ≤ result }
+        ensures few { result ≤ 64 }
     {
         1usize << self.shape.tracks
     }
 
     pub fn leaf_rows(self) -> usize
-        requires { Fits self.shape self.most }
-        ensures { (result ≡ leaf_rows self.shape) × (result ≤ 512) }
+        ensures is { result ≡ leaf_rows self.shape }
+        ensures few { result ≤ 512 }
     {
-        self.shape.leaves as usize * self.marks()
+        usize::from(self.shape.leaves) * self.marks()
     }
 
     pub fn inner_rows(self) -> usize
-        requires { Fits self.shape self.most }
-        ensures { (result ≡ inner_rows self.shape) × (result ≤ 256) }
+        ensures is { result ≡ inner_rows self.shape }
+        ensures few { result ≤ 256 }
     {
-        self.shape.inners as usize * self.marks()
+        usize::from(self.shape.inners) * self.marks()
     }
 
     // The number of bytes.
     pub fn width(self) -> usize
-        requires { Fits self.shape self.most }
         ensures { result ≡ width self.shape self.most }
     {
         1 + self.most + self.leaf_rows() + self.inner_rows() * self.most * self.most
@@ -60,25 +68,26 @@ impl Layout {
 
     // The label, counted from the first of its kind, and the marks of a row.
     pub fn step(self, row: usize) -> (u8, u8)
-        requires { (Fits self.shape self.most) × (row < 512) }
-        ensures { (result.0 ≡ row / 2 ^ self.shape.tracks) × (result.1 ≡ row % 2 ^ self.shape.tracks) }
+        requires { row < 512 }
+        ensures label { result.0 ≡ row / 2 ^ self.shape.tracks }
+        ensures marks { result.1 ≡ row % 2 ^ self.shape.tracks }
     {
         let marks = self.marks();
         ((row / marks) as u8, (row % marks) as u8)
     }
 
     pub fn leaf_address(self, label: u8, marks: u8) -> usize
-        requires { (Fits self.shape self.most) × ((LeafLabel self.shape label) × (Marks self.shape marks)) }
+        requires { (LeafLabel self.shape label) × (Marks self.shape marks) }
         ensures { result ≡ leaf_address self.shape self.most label marks }
     {
-        1 + self.most + (label as usize * self.marks() + marks as usize)
+        1 + self.most + (usize::from(label) * self.marks() + usize::from(marks))
     }
 
     pub fn inner_address(self, label: u8, marks: u8, left: usize, right: usize) -> usize
-        requires { (Fits self.shape self.most) × ((InnerLabel self.shape label) × ((Marks self.shape marks) × ((left < 32) × (right < 32)))) }
+        requires { (InnerLabel self.shape label) × ((Marks self.shape marks) × ((left < 32) × (right < 32))) }
         ensures { result ≡ inner_address self.shape self.most label marks left right }
     {
-        let row = (label - self.shape.leaves) as usize * self.marks() + marks as usize;
+        let row = usize::from(label - self.shape.leaves) * self.marks() + usize::from(marks);
         1 + self.most
             + self.leaf_rows()
             + (row * (self.most * self.most) + left * self.most + right)
