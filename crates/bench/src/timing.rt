@@ -76,11 +76,7 @@ impl<'a> Bench<'a> {
     }
 
     pub fn table<'b>(self, image: &'b Vec<u8>) -> SlotTable<'b> {
-        SlotTable {
-            bytes: image.as_slice(),
-            shape: self.size.shape,
-            most: self.size.most,
-        }
+        SlotTable::new(image.as_slice(), self.size.shape, self.size.most)
     }
 
     // The table's image, or none where it has too many states.

@@ -107,11 +107,7 @@ fn a_table_of_a_table(rt: HostRuntime) -> Result<(), Fail> {
             Build::Built(4)
         )
     );
-    let table = SlotTable {
-        bytes: &image,
-        shape: SMALL,
-        most: 8,
-    };
+    let table = SlotTable::new(&image, SMALL, 8);
     assert!(rt; matches!(build(&table, 8, &mut again), Build::Built(4)));
     assert!(rt; again == image);
     Ok(())

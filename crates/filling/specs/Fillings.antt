@@ -14,14 +14,15 @@ use Rattle.automata.specs.Atoms.{atom_automaton}
 use Rattle.tables.specs.Tables.{TooMany}
 use Rattle.tables.specs.Slots.{slot_automaton}
 use Rattle.tables.specs.Canonical.{TableIn}
-use Rattle.machines.specs.declared.slot_table.SlotTable.{SlotTable}
+use Rattle.slots.specs.declared.layout.Layout.{Layout}
+use Rattle.machines.specs.declared.table.SlotBytes.{SlotBytes}
 use Rattle.atoms.specs.Making.{atom_refusal}
 use Rattle.racks.specs.declared.rack.Rack.{Rack}
 use Rattle.racks.specs.Racks.{slot_bytes}
 use Rattle.racks.specs.Calls.{Lent, Call, by_rack, check_lent, due, write, table}
 use Rattle.racks.specs.Promises.{filled_by, Done}
 
-abbrev pub table_meaning : SlotTable → Automaton
+abbrev pub table_meaning : SlotBytes Layout → Automaton
 table_meaning s = slot_automaton s.shape s.most s.bytes.now
 
 pub record MadeTable (R : Rack) (M : Automaton) (cells : List ℕ) : Type 0 where

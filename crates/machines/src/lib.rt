@@ -2,11 +2,11 @@
 #![tactic(auto)]
 
 mod cell;
+mod limits;
 mod running;
-mod slot_table;
 mod table;
 
 pub use cell::Code;
+pub use limits::Limits;
 pub use running::{judge, run};
-pub use slot_table::SlotTable;
-pub use table::Table;
+pub use table::{SlotBytes, SlotTable, Table, slot_table_means, table_means};

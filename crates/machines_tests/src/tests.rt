@@ -84,11 +84,7 @@ fn a_table_of_any_bytes(rt: HostRuntime) -> Result<(), Fail> {
     let bytes = [200u8; 60];
     for most in 0..40usize {
         let mut stack = [0u8; 2];
-        let table = Table {
-            bytes: &bytes,
-            shape: SMALL,
-            most,
-        };
+        let table = Table::new(&bytes, SMALL, most);
         assert!(rt; table.count() >= 1 && table.count() <= 32);
         assert!(rt; table.leaf(1, 3) < table.count());
         assert!(rt; table.inner(2, 3, 0, 0) < table.count());

@@ -8,7 +8,8 @@ use Rattle.trees.specs.declared.refusal.Refusal.{Refusal}
 use Rattle.trees.specs.Trees.{Tree, Shaped}
 use Rattle.automata.specs.Automata.{Automaton, accepts}
 use Rattle.automata.specs.Rules.{Rule, Holds}
-use Rattle.machines.specs.declared.slot_table.SlotTable.{SlotTable}
+use Rattle.slots.specs.declared.layout.Layout.{Layout}
+use Rattle.machines.specs.declared.table.SlotBytes.{SlotBytes}
 use Rattle.racks.specs.declared.rack.Rack.{Rack}
 use Rattle.racks.specs.Racks.{slot_machine, is_taken}
 use Rattle.racks.specs.Calls.{check_open, check_slot, check_full}
@@ -18,7 +19,7 @@ use Rattle.filling.specs.Fillings.{table_meaning}
 abbrev pub Answers : Rack → Log → ℕ → Automaton → Type 0
 Answers R log k M = (r : Rule) × (logged log k ≡ Some r) × ((t : Tree) → Shaped R.shape t → T (accepts M t) ↔ Holds r t)
 
-abbrev pub Asks : Rack → List ℕ → ℕ → Result SlotTable Refusal → Type 0
+abbrev pub Asks : Rack → List ℕ → ℕ → Result (SlotBytes Layout) Refusal → Type 0
 Asks R store k (Ok table) =
     (check_open R store (check_slot R k (check_full (is_taken R store) k None)) ≡ None) × (table_meaning table ≡ slot_machine R store k)
     × ((log : Log) → KeptIn R log store → Answers R log k (table_meaning table))

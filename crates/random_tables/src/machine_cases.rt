@@ -172,11 +172,7 @@ fn try_one(heap: Global, random: &mut Random, tally: &mut Tally) -> Result<(), F
         tracks: random.byte(2).saturating_add(1),
     };
     let bytes = draw_bytes(heap, random, shape)?;
-    let machine = SlotTable {
-        bytes: bytes.as_slice(),
-        shape,
-        most: ROOM,
-    };
+    let machine = SlotTable::new(bytes.as_slice(), shape, ROOM);
     let most = usize::from(random.byte(9)).saturating_add(4);
     let expected = image_of(heap, &machine, most)?;
     let built = build(heap, &machine, most, width_of(shape, most))?;

@@ -40,11 +40,7 @@ fn table<'a>(shape: Shape, images: &'a Vec<Image>, at: usize) -> Option<SlotTabl
     let Some(Some(image)) = images.get(at) else {
         return None;
     };
-    Some(SlotTable {
-        bytes: image.as_slice(),
-        shape,
-        most: MOST,
-    })
+    Some(SlotTable::new(image.as_slice(), shape, MOST))
 }
 
 fn layer_image(

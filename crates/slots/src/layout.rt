@@ -3,6 +3,7 @@ ghost use Rattle.std.specs.Prelude.{◌≡◌, ◌+◌, ◌/◌, ◌%◌, ◌^�
 ghost use Rattle.trees.specs.Shapes.{LeafLabel, InnerLabel, Marks};
 ghost use Rattle.tables.specs.Images.{leaf_rows, inner_rows, width, leaf_address, inner_address, fits, Fits};
 
+use crate::addresses::Addresses;
 use trees::Shape;
 
 // The shape of a table, and the most states that it has room for, each within its limits.
@@ -36,13 +37,24 @@ impl Layout {
         Some(Layout { shape, most })
     }
 
+    // Where its cells stand.
+    pub fn addresses(self) -> Addresses
+        ensures shape { result.shape ≡ self.shape }
+        ensures most { result.most ≡ self.most }
+    {
+        Addresses {
+            shape: self.shape,
+            most: self.most,
+        }
+    }
+
     // The number of marks that a node may carry.
     pub fn marks(self) -> usize
         ensures is { result ≡ 2 ^ self.shape.tracks }
         ensures some { 2 ≤ result }
         ensures few { result ≤ 64 }
     {
-        1usize << self.shape.tracks
+        self.addresses().marks()
     }
 
     pub fn leaf_rows(self) -> usize
@@ -80,16 +92,13 @@ impl Layout {
         requires { (LeafLabel self.shape label) × (Marks self.shape marks) }
         ensures { result ≡ leaf_address self.shape self.most label marks }
     {
-        1 + self.most + (usize::from(label) * self.marks() + usize::from(marks))
+        self.addresses().leaf(label, marks)
     }
 
     pub fn inner_address(self, label: u8, marks: u8, left: usize, right: usize) -> usize
         requires { (InnerLabel self.shape label) × ((Marks self.shape marks) × ((left < 32) × (right < 32))) }
         ensures { result ≡ inner_address self.shape self.most label marks left right }
     {
-        let row = usize::from(label - self.shape.leaves) * self.marks() + usize::from(marks);
-        1 + self.most
-            + self.leaf_rows()
-            + (row * (self.most * self.most) + left * self.most + right)
+        self.addresses().inner(label, marks, left, right)
     }
 }

@@ -26,11 +26,7 @@ pub fn slot_machine<'a>(rack: Rack, store: &'a [u8], width: usize, k: usize) -> 
     requires { (Opened rack store.now width) × (k < rack.slots) }
     ensures { slot_automaton result.shape result.most result.bytes.now ≡ slot_machine rack store.now k }
 {
-    SlotTable {
-        bytes: slot_part(rack, store, width, k),
-        shape: rack.shape,
-        most: rack.most,
-    }
+    SlotTable::new(slot_part(rack, store, width, k), rack.shape, rack.most)
 }
 
 // Puts the first bytes in a slot.
