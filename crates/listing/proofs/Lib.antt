@@ -1,6 +1,5 @@
 pub mod Sinks
 pub mod Lengths
 pub mod Takings
-pub mod Addresses
+pub mod Cells
 pub mod Texts
-pub mod Ends

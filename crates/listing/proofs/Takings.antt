@@ -1,10 +1,8 @@
 -- Texts taken one after another: fields, lines, and a text for each number.
-use Rattle.std.proofs.Common.{◌≡◌, ℕ, ◌+◌, ◌/◌, ◌%◌, ◌^◌, ◌<◌, ◌≤◌, Bool, true, false, List, [], ◌∷◌, ◌++◌, map, decimal, sym, refl, ap, ◌∙◌, subst, append_assoc, append-nil, arith}
-use mir.Val.{bool_byte}
+use Rattle.std.proofs.Common.{◌≡◌, ℕ, ◌+◌, ◌/◌, ◌%◌, ◌^◌, ◌<◌, ◌≤◌, List, [], ◌∷◌, ◌++◌, map, decimal, sym, refl, ap, ◌∙◌, subst, append_assoc, append-nil, arith}
 use Rattle.std.specs.List.{range_with_len}
 use Rattle.std.proofs.lemmas.List.FromFn.{map-range_with_len_more}
 use Rattle.std.proofs.lemmas.Fmt.{decimal_digit, decimal_step}
-use Rattle.automata.specs.Atoms.{one_if}
 use Rattle.tables.specs.Texts.{fields, line, joined, over}
 use Rattle.listing.specs.Sinks.{Takes}
 
@@ -16,7 +14,7 @@ joined_append : (xs ys : List (List ℕ)) → joined (xs ++ ys) ≡ joined xs ++
 joined_append [] ys = refl
 joined_append (x ∷ xs) ys = ap (λ (r : List ℕ). x ++ r) (joined_append xs ys) ∙ sym (append_assoc x (joined xs) (joined ys))
 
-over_more : (f : ℕ → List ℕ) (a n j : ℕ) → a + n ≡ j → over a (n + 1) f ≡ over a n f ++ f j
+pub over_more : (f : ℕ → List ℕ) (a n j : ℕ) → a + n ≡ j → over a (n + 1) f ≡ over a n f ++ f j
 over_more f a n j e =
     ap joined (map-range_with_len_more f a n j e)
     ∙ (joined_append (map f (range_with_len a n)) (f j ∷ []) ∙ ap (λ (r : List ℕ). over a n f ++ r) (append-nil (f j)))
@@ -49,25 +47,10 @@ module _ {S : Type 0} {took : S → S → List ℕ → Type 0} where
       → Takes took s v (line letter ns)
   takes_line {s} {t} {u} {v} {letter} ns p q r = takes_then p (takes_then q r)
 
-  -- one number more
-  pub takes_map : {s t u : S} (f : ℕ → ℕ) (n : ℕ) → Takes took s t (fields (map f (range_with_len 0 n))) → Takes took t u (44 ∷ decimal (f n))
-      → Takes took s u (fields (map f (range_with_len 0 (n + 1))))
-  takes_map {s} {t} {u} f n p q = takes_is (ap fields (sym (map-range_with_len_more f 0 n n (omega arith)))) (takes_field (map f (range_with_len 0 n)) (f n) p q)
-
-  -- the numbers of one index more
-  pub takes_lists : {s t u : S} (f : ℕ → List ℕ) (n : ℕ) → Takes took s t (fields (over 0 n f)) → Takes took t u (fields (f n))
-      → Takes took s u (fields (over 0 (n + 1) f))
-  takes_lists {s} {t} {u} f n p q = takes_is (ap fields (sym (over_more f 0 n n (omega arith)))) (takes_fields (over 0 n f) (f n) p q)
-
   -- the text of one index more
   pub takes_over : {s t u : S} (f : ℕ → List ℕ) (a n j : ℕ) → a + n ≡ j → Takes took s t (over a n f) → Takes took t u (f j)
       → Takes took s u (over a (n + 1) f)
   takes_over {s} {t} {u} f a n j e p q = takes_is (sym (over_more f a n j e)) (takes_then p q)
-
--- a test as a byte
-pub byte_one_if : (b : Bool) → bool_byte b ≡ one_if b
-byte_one_if true = refl
-byte_one_if false = refl
 
 -- the decimals of numbers of two and three digits
 pub two_digits : (n : ℕ) → 10 ≤ n → n < 100 → decimal n ≡ (48 + n / 10 % 10) ∷ (48 + n % 10) ∷ []

@@ -1,32 +1,23 @@
 -- The bytes of a slot, read as a table with so many states.
 -- Words:
---   Whole s            the shape and the room for states are within their limits, the bytes are at least an image, and there is room for the states
 --   cell k bs i        the byte at i, 0 where it is no state below k
---   cells k bs i n     the n cells from i on
 --   read_table l k bs  the table that the bytes are, with k states
 --   read s             the table that a slot's bytes are
+--   text s             its text
 --   head_line, final_line, leaf_line, inner_line    the lines T, A, L and I of a table
 --   lefts_text, marks_text, inners_text             the lines I of a label and marks, of a label, and all
-use Rattle.std.specs.Prelude.{ℕ, ◌+◌, ◌^◌, ◌≤◌, List, [], ◌∷◌, map, length, ◌==◌, slice_index}
+use Rattle.std.specs.Prelude.{ℕ, ◌+◌, ◌^◌, List, [], ◌∷◌, map, ◌==◌, slice_index}
 use Rattle.std.specs.List.{range_with_len}
 use Rattle.trees.specs.declared.shape.Shape.{Shape}
 use Rattle.slots.specs.declared.layout.Layout.{Layout}
 use Rattle.listing.specs.declared.text.Slot.{Slot}
 use Rattle.automata.specs.Atoms.{one_if}
 use Rattle.automata.specs.Numbering.{Table}
-use Rattle.tables.specs.Images.{kept, width, leaf_address, inner_address, Fits}
-use Rattle.tables.specs.Texts.{line, over}
-
-pub record Whole (s : Slot) : Type 0 where
-  pub fits : Fits s.layout.shape s.layout.most
-  pub long : width s.layout.shape s.layout.most ≤ length s.bytes.now
-  pub few : s.states ≤ s.layout.most
+use Rattle.tables.specs.Images.{kept, leaf_address, inner_address}
+use Rattle.tables.specs.Texts.{line, over, table_text}
 
 abbrev pub cell : ℕ → List ℕ → ℕ → ℕ
 cell k bs i = kept k (slice_index bs i)
-
-abbrev pub cells : ℕ → List ℕ → ℕ → ℕ → List ℕ
-cells k bs i n = map (λ j. cell k bs (i + j)) (range_with_len 0 n)
 
 abbrev pub read_table : Layout → ℕ → List ℕ → Table
 read_table l k bs = record {
@@ -38,6 +29,9 @@ read_table l k bs = record {
 
 abbrev pub read : Slot → Table
 read s = read_table s.layout s.states s.bytes.now
+
+abbrev pub text : Slot → List ℕ
+text s = table_text s.layout.shape (read s)
 
 abbrev pub head_line : Shape → Table → List ℕ
 head_line sh T = line 84 (sh.leaves ∷ sh.inners ∷ sh.tracks ∷ T.states ∷ [])

@@ -5,4 +5,4 @@ mod listing;
 mod sink;
 mod text;
 
-pub use listing::{Listing, list_table};
+pub use listing::{Unwritten, list_table};

@@ -2,37 +2,31 @@
 ghost use Rattle.listing.specs.Listings.{Listed, Tells};
 
 use crate::text::Slot;
-use slots::Layout;
 use trees::Shape;
 
-// What a listing answers: written with its length, or the buffer is shorter than the length, or the numbers or the image
-// do not serve.
-#[derive(Clone, Copy)]
-pub enum Listing {
-    Written(usize),
+// Why a listing is not written: the buffer is shorter than the text's length, or the numbers or the image do not serve.
+#[derive(Clone, Copy, PartialEq, Eq, Debug)]
+pub enum Unwritten {
     Short(usize),
     Unserved,
 }
 
-// Writes the text of the table that the image is, whatever its bytes are, at the front of the buffer.
+// Writes the text of the table that the image is, whatever its bytes are, at the front of the buffer, and answers its length.
 // The length is counted first, so that a buffer too short is left as it was.
-pub fn list_table(shape: Shape, most: usize, image: &[u8], buffer: &mut [u8]) -> Listing
+pub fn list_table(
+    shape: Shape,
+    most: usize,
+    image: &[u8],
+    buffer: &mut [u8],
+) -> Result<usize, Unwritten>
     ensures answer { Listed shape most image.now buffer.old buffer.new result }
     ensures tells { Tells shape most image.now }
 {
-    let layout = Layout { shape, most };
-    if !layout.fits() || image.len() < layout.width() {
-        return Listing::Unserved;
-    }
-    let slot = Slot {
-        bytes: image,
-        layout,
-        states: image[0].min(most as u8).max(1),
-    };
+    let slot = Slot::new(shape, most, image).ok_or(Unwritten::Unserved)?;
     let length = slot.text_length();
     if buffer.len() < length {
-        return Listing::Short(length);
+        return Err(Unwritten::Short(length));
     }
     slot.write_text(buffer);
-    Listing::Written(length)
+    Ok(length)
 }

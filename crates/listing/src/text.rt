@@ -1,12 +1,13 @@
 // The text of a table, line by line, into any sink.
-ghost use Rattle.std.specs.Prelude.{◌≡◌, ◌+◌, ◌<◌, ◌≤◌, ◌∷◌, length, decimal};
-ghost use Rattle.trees.specs.Shapes.{InnerLabel, Marks};
-ghost use Rattle.tables.specs.Texts.{fields, table_text};
-ghost use Rattle.listing.specs.Sinks.{Takes, placed};
-ghost use Rattle.listing.specs.Rows.{Whole, cell, cells, read, head_line, final_line, leaf_line, inner_line, lefts_text, marks_text, inners_text};
+ghost use Rattle.std.specs.Prelude.{◌≡◌, ℕ, ◌≤◌, ◌∷◌, length, map, decimal};
+ghost use Rattle.tables.specs.Images.{width};
+ghost use Rattle.tables.specs.Texts.{fields};
+ghost use Rattle.listing.specs.Sinks.{Takes, Computes};
 
 use crate::sink::{Counter, Sink, Writer};
 use slots::Layout;
+use std::convert::identity;
+use trees::Shape;
 
 // The least number with two digits.
 const TWO_DIGITS: u8 = 10;
@@ -19,51 +20,72 @@ fn put_field<S: Sink>(sink: &mut S, number: u8)
     ensures { Takes S.Sink.took sink.old sink.new (44 ∷ decimal number) }
 {
     sink.put(b',');
-    if number < TWO_DIGITS {
-        sink.put(b'0' + number);
-        return;
-    }
     if number >= THREE_DIGITS {
         sink.put(b'0' + number / 100);
     }
-    sink.put(b'0' + number / 10 % 10);
+    if number >= TWO_DIGITS {
+        sink.put(b'0' + number / 10 % 10);
+    }
     sink.put(b'0' + number % 10);
 }
 
-fn put_fields<S: Sink>(sink: &mut S, numbers: &[u8])
-    ensures { Takes S.Sink.took sink.old sink.new (fields numbers.now) }
+// A comma and a number for each byte.
+fn put_fields<S: Sink, F: Fn(u8) -> u8>(sink: &mut S, bytes: &[u8], number: F)
+    requires { F.IsAlwaysCallable number }
+    ensures { (of : ℕ → ℕ) → Computes (F.post number) of → Takes S.Sink.took sink.old sink.new (fields (map of bytes.now)) }
 {
-    for number in numbers {
-        put_field(sink, *number);
+    for byte in bytes {
+        put_field(sink, number(*byte));
     }
 }
 
 // The bytes of a slot, read as a table with `states` states.
 #[derive(Clone, Copy)]
 pub(crate) struct Slot<'a> {
-    pub(crate) bytes: &'a [u8],
-    pub(crate) layout: Layout,
-    pub(crate) states: u8,
+    bytes: &'a [u8],
+    layout: Layout,
+    states: u8,
+    ghost long: { width layout.shape layout.most ≤ length bytes.now },
+    ghost few: { states ≤ layout.most },
 }
 
-impl Slot<'_> {
-    // A byte that is no state reads as 0.
-    fn cell(&self, at: usize) -> u8
-        requires { at < length self.now.bytes.now }
-        ensures { result ≡ cell self.now.states self.now.bytes.now at }
+impl<'a> Slot<'a> {
+    ghost use Rattle.std.specs.Prelude.{◌≡◌, ◌+◌, ◌<◌, ◌≤◌, ◌∷◌, true, false, length, map, MatchOption};
+    ghost use Rattle.trees.specs.Shapes.{InnerLabel, Marks};
+    ghost use Rattle.tables.specs.Images.{kept};
+    ghost use Rattle.tables.specs.Texts.{fields};
+    ghost use Rattle.tables.specs.Canonical.{slot_text};
+    ghost use Rattle.listing.specs.Sinks.{Takes, placed};
+    ghost use Rattle.listing.specs.Listings.{listable};
+    ghost use Rattle.listing.specs.Rows.{read, text, head_line, final_line, leaf_line, inner_line, lefts_text, marks_text, inners_text};
+
+    // The slot, or none where the numbers or the bytes do not serve.
+    pub(crate) fn new(shape: Shape, most: usize, bytes: &'a [u8]) -> Option<Slot<'a>>
+        ensures { MatchOption result (listable shape most bytes.now ≡ false) (λ s. (listable shape most bytes.now ≡ true) × (text s ≡ slot_text shape most bytes.now)) }
     {
-        let state = self.bytes[at];
-        if state < self.states { state } else { 0 }
+        let layout = Layout::new(shape, most)?;
+        if bytes.len() < layout.width() {
+            return None;
+        }
+        Some(Slot {
+            bytes,
+            layout,
+            states: bytes[0].min(most as u8).max(1),
+        })
     }
 
-    // The fields of `count` cells from `start` on.
-    fn put_cells<S: Sink>(&self, sink: &mut S, start: usize, count: usize)
-        requires { start + count ≤ length self.now.bytes.now }
-        ensures { Takes S.Sink.took sink.old sink.new (fields (cells self.now.states self.now.bytes.now start count)) }
+    // A byte that is no state reads as 0.
+    fn cell(&self, byte: u8) -> u8
+        ensures { result ≡ kept self.now.states byte }
     {
-        for i in 0..count {
-            put_field(sink, self.cell(start + i));
-        }
+        if byte < self.states { byte } else { 0 }
+    }
+
+    // The fields of cells that stand side by side.
+    fn put_cells<S: Sink>(&self, sink: &mut S, cells: &[u8])
+        ensures { Takes S.Sink.took sink.old sink.new (fields (map (kept self.now.states) cells.now)) }
+    {
+        put_fields(sink, cells, |cell| self.cell(cell));
     }
 
     // Line T: the shape and the number of states.
@@ -75,50 +97,51 @@ impl Slot<'_> {
         put_fields(
             sink,
             &[shape.leaves, shape.inners, shape.tracks, self.states],
+            identity,
         );
         sink.put(b'\n');
     }
 
     // Line A: whether each state is final.
     fn put_finals<S: Sink>(&self, sink: &mut S)
-        requires { Whole self.now }
         ensures { Takes S.Sink.took sink.old sink.new (final_line (read self.now)) }
     {
         sink.put(b'A');
-        for state in 0..self.states as usize {
-            put_field(sink, (self.bytes[1 + state] == 1) as u8);
-        }
+        let finals = &self.bytes[1..1 + usize::from(self.states)];
+        put_fields(sink, finals, |byte| u8::from(byte == 1));
         sink.put(b'\n');
     }
 
-    // Line L: the leaf cells, by label and marks.
+    // Line L: the leaf cells, by label and marks. They stand side by side.
     fn put_leaves<S: Sink>(&self, sink: &mut S)
-        requires { Whole self.now }
         ensures { Takes S.Sink.took sink.old sink.new (leaf_line self.now.layout.shape (read self.now)) }
     {
-        let layout = self.layout;
+        let start = self.layout.leaf_address(0, 0);
         sink.put(b'L');
-        for label in 0..layout.shape.leaves {
-            self.put_cells(sink, layout.leaf_address(label, 0), layout.marks());
-        }
+        self.put_cells(sink, &self.bytes[start..start + self.layout.leaf_rows()]);
         sink.put(b'\n');
     }
 
     // A line I: the inner cells of a label, marks and left state, one for each right state. They stand side by side.
     fn put_row<S: Sink>(&self, sink: &mut S, label: u8, marks: u8, left: u8)
-        requires { (Whole self.now) × ((InnerLabel self.now.layout.shape label) × ((Marks self.now.layout.shape marks) × (left < self.now.states))) }
+        requires label { InnerLabel self.now.layout.shape label }
+        requires marks { Marks self.now.layout.shape marks }
+        requires left { left < self.now.states }
         ensures { Takes S.Sink.took sink.old sink.new (inner_line (read self.now) label marks left) }
     {
+        let start = self
+            .layout
+            .inner_address(label, marks, usize::from(left), 0);
         sink.put(b'I');
-        put_fields(sink, &[label, marks, left]);
-        let start = self.layout.inner_address(label, marks, left as usize, 0);
-        self.put_cells(sink, start, self.states as usize);
+        put_fields(sink, &[label, marks, left], identity);
+        self.put_cells(sink, &self.bytes[start..start + usize::from(self.states)]);
         sink.put(b'\n');
     }
 
     // The lines I of a label and marks.
     fn put_lefts<S: Sink>(&self, sink: &mut S, label: u8, marks: u8)
-        requires { (Whole self.now) × ((InnerLabel self.now.layout.shape label) × (Marks self.now.layout.shape marks)) }
+        requires label { InnerLabel self.now.layout.shape label }
+        requires marks { Marks self.now.layout.shape marks }
         ensures { Takes S.Sink.took sink.old sink.new (lefts_text (read self.now) label marks) }
     {
         for left in 0..self.states {
@@ -128,7 +151,7 @@ impl Slot<'_> {
 
     // The lines I of a label.
     fn put_label<S: Sink>(&self, sink: &mut S, label: u8)
-        requires { (Whole self.now) × (InnerLabel self.now.layout.shape label) }
+        requires { InnerLabel self.now.layout.shape label }
         ensures { Takes S.Sink.took sink.old sink.new (marks_text self.now.layout.shape (read self.now) label) }
     {
         for marks in 0..self.layout.marks() as u8 {
@@ -138,18 +161,16 @@ impl Slot<'_> {
 
     // The lines I.
     fn put_inners<S: Sink>(&self, sink: &mut S)
-        requires { Whole self.now }
         ensures { Takes S.Sink.took sink.old sink.new (inners_text self.now.layout.shape (read self.now)) }
     {
         let shape = self.layout.shape;
-        for nth in 0..shape.inners {
-            self.put_label(sink, shape.leaves + nth);
+        for label in shape.leaves..shape.leaves + shape.inners {
+            self.put_label(sink, label);
         }
     }
 
     fn put_text<S: Sink>(&self, sink: &mut S)
-        requires { Whole self.now }
-        ensures { Takes S.Sink.took sink.old sink.new (table_text self.now.layout.shape (read self.now)) }
+        ensures { Takes S.Sink.took sink.old sink.new (text self.now) }
     {
         self.put_head(sink);
         self.put_finals(sink);
@@ -159,8 +180,7 @@ impl Slot<'_> {
 
     // The length of the text.
     pub(crate) fn text_length(&self) -> usize
-        requires { Whole self.now }
-        ensures { result ≡ length (table_text self.now.layout.shape (read self.now)) }
+        ensures { result ≡ length (text self.now) }
     {
         let mut counter = Counter { length: 0 };
         self.put_text(&mut counter);
@@ -169,8 +189,8 @@ impl Slot<'_> {
 
     // Writes the text at the front of a buffer that is long enough.
     pub(crate) fn write_text(&self, buffer: &mut [u8])
-        requires { (Whole self.now) × (length (table_text self.now.layout.shape (read self.now)) ≤ length buffer.old) }
-        ensures { buffer.new ≡ placed (table_text self.now.layout.shape (read self.now)) buffer.old }
+        requires { length (text self.now) ≤ length buffer.old }
+        ensures { buffer.new ≡ placed (text self.now) buffer.old }
     {
         let mut writer = Writer {
             buffer: &mut *buffer,

@@ -3,7 +3,7 @@
 // Tests of listings.
 #[cfg(test)]
 mod tests {
-    use listing::{Listing, list_table};
+    use listing::{Unwritten, list_table};
     use trees::Shape;
 
     const SHAPE: Shape = Shape {
@@ -25,7 +25,7 @@ mod tests {
     fn the_listing_of_exactly_one(rt: HostRuntime) {
         let mut buffer = [7u8; 126];
         let answer = list_table(SHAPE, 4, &IMAGE, &mut buffer);
-        assert!(rt; matches!(answer, Listing::Written(108)));
+        assert_eq!(rt; answer, Ok(108));
         assert!(rt; buffer.starts_with(TEXT));
         assert!(rt; buffer.ends_with(&[7u8; 18]));
     }
@@ -34,7 +34,7 @@ mod tests {
     fn a_buffer_as_long_as_the_text(rt: HostRuntime) {
         let mut buffer = [7u8; 108];
         let answer = list_table(SHAPE, 4, &IMAGE, &mut buffer);
-        assert!(rt; matches!(answer, Listing::Written(108)));
+        assert_eq!(rt; answer, Ok(108));
         assert!(rt; buffer == *TEXT);
     }
 
@@ -42,7 +42,7 @@ mod tests {
     fn a_buffer_one_byte_short(rt: HostRuntime) {
         let mut buffer = [7u8; 107];
         let answer = list_table(SHAPE, 4, &IMAGE, &mut buffer);
-        assert!(rt; matches!(answer, Listing::Short(108)));
+        assert_eq!(rt; answer, Err(Unwritten::Short(108)));
         assert!(rt; buffer == [7u8; 107]);
     }
 
@@ -50,9 +50,9 @@ mod tests {
     fn what_does_not_serve(rt: HostRuntime) {
         let mut buffer = [7u8; 126];
         let answer = list_table(SHAPE, 5, &IMAGE, &mut buffer);
-        assert!(rt; matches!(answer, Listing::Unserved));
+        assert_eq!(rt; answer, Err(Unwritten::Unserved));
         let answer = list_table(SHAPE, 33, &[0u8; 4000], &mut buffer);
-        assert!(rt; matches!(answer, Listing::Unserved));
+        assert_eq!(rt; answer, Err(Unwritten::Unserved));
         assert!(rt; buffer == [7u8; 126]);
     }
 
@@ -71,7 +71,7 @@ mod tests {
         image[18] = 255;
         let mut buffer = [7u8; 900];
         let answer = list_table(SHAPE, 12, &image, &mut buffer);
-        assert!(rt; matches!(answer, Listing::Written(818)));
+        assert_eq!(rt; answer, Ok(818));
         assert!(rt;
             buffer.starts_with(
                 b"T,1,1,1,12\nA,0,0,0,0,0,0,0,0,0,0,0,1\nL,10,11\nI,1,0,0,9,11,0,0,0,0,0,0,0,0,0,0\nI,1,0,1,0,0,0,0,0,0,0,0,0,0,0,0\n",

@@ -8,7 +8,7 @@ ghost use Rattle.racks.specs.Promises.{judged_by, listed_by, Zeroed, VerdictLogg
 ghost use Rattle.rack.specs.Reading.{Asks};
 
 use lent::Cleared;
-use listing::{Listing, list_table};
+use listing::{Unwritten, list_table};
 use machines::{SlotTable, judge as judge_by};
 use racks::Rack;
 use store::{full_slot, refused, slot_machine, slot_part};
@@ -58,9 +58,9 @@ fn list_in(rack: Rack, store: &[u8], slot: usize, buffer: &mut [u8]) -> Result<u
     let width = full_slot(rack, store, slot)?;
     let image = slot_part(rack, store, width, slot);
     match list_table(rack.shape, rack.most, image, buffer) {
-        Listing::Written(length) => Ok(length),
-        Listing::Short(_) => Err(refused(Reason::BufferTooShort)),
-        Listing::Unserved => unreachable(),
+        Ok(length) => Ok(length),
+        Err(Unwritten::Short(_)) => Err(refused(Reason::BufferTooShort)),
+        Err(Unwritten::Unserved) => unreachable(),
     }
 }
 

@@ -1,18 +1,22 @@
 -- One field more.
-use Rattle.std.proofs.Common.{get_or, take, sym, ap, arith}
-use Rattle.std.proofs.lemmas.List.{take_more, take_all}
+use Rattle.std.proofs.Common.{ℕ, List, [], ◌∷◌, map, get_or, take, decimal, sym, ap, ◌∙◌, arith}
+use Rattle.std.proofs.lemmas.List.{take_more, take_all, map-append}
 use Rattle.tables.specs.Texts.{fields}
 use Rattle.listing.proofs.Takings.{takes_is, takes_none, takes_field}
 use Rattle.listing.proofs.text.put_fields.Goals as goal
 
-pub loop-number-init : goal.loop-number-init
-loop-number-init g c = takes_none
+pub loop-byte-init : goal.loop-byte-init
+loop-byte-init g c of is = takes_none
 
-pub loop-number-preserved : goal.loop-number-preserved
-loop-number-preserved g c =
-    takes_is (ap fields (sym (take_more c.args.numbers.now c.loop-number.number-index 0 c.loop-number-test.true)))
-    (takes_field (take c.loop-number.number-index c.args.numbers.now) (get_or c.args.numbers.now c.loop-number.number-index 0) c.loop-number.invariant c.put_field.ensures)
+pub loop-byte-preserved : goal.loop-byte-preserved
+loop-byte-preserved g c of is =
+    let b : ℕ = get_or c.args.bytes.now c.loop-byte.byte-index 0 in
+    let before : List ℕ = take c.loop-byte.byte-index c.args.bytes.now in
+    let more = take_more c.args.bytes.now c.loop-byte.byte-index 0 c.loop-byte-test.true in
+    takes_is (ap fields (sym (ap (map of) more ∙ map-append of before (b ∷ []))))
+    (takes_field (map of before) (of b) (c.loop-byte.invariant of is)
+    (takes_is (ap (λ (n : ℕ). 44 ∷ decimal n) (is b c.number.result (search arith) c.number.ensures)) c.put_field.ensures))
 
 pub returns : goal.returns
-returns g c =
-    takes_is (ap fields (take_all c.loop-number.number-index c.args.numbers.now (omega arith))) c.loop-number.invariant
+returns g c of is =
+    takes_is (ap (λ (bs : List ℕ). fields (map of bs)) (take_all c.loop-byte.byte-index c.args.bytes.now (omega arith))) (c.loop-byte.invariant of is)

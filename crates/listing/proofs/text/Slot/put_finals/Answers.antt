@@ -1,21 +1,20 @@
--- One flag more.
-use Rattle.std.proofs.Common.{◌≡◌, ℕ, ◌+◌, eqb, List, ◌∷◌, map, get_or, decimal, ap, arith}
+-- The letter, a flag for each state, and the line's end.
+use Rattle.std.proofs.Common.{◌≡◌, ℕ, ◌+◌, ◌-◌, ◌≤◌, eqb, List, map, length, get_or, take, drop, ap, ◌∙◌, arith, rules}
 use Rattle.std.specs.List.{range_with_len}
 use Rattle.automata.specs.Atoms.{one_if}
-use Rattle.tables.specs.Texts.{line}
-use Rattle.listing.proofs.Takings.{takes_is, takes_none, takes_map, takes_line, byte_one_if}
+use Rattle.tables.specs.Texts.{fields}
+use Rattle.listing.proofs.Takings.{takes_is, takes_line}
+use Rattle.listing.proofs.Cells.{side_by_side}
 use Rattle.listing.proofs.text.Slot.put_finals.Goals as goal
-
-pub loop-state-init : goal.loop-state-init
-loop-state-init g c = takes_none
-
-pub loop-state-preserved : goal.loop-state-preserved
-loop-state-preserved g c =
-    takes_map (λ s. one_if (eqb (get_or c.args.self.now.bytes.now (1 + s) 0) 1)) c.loop-state.state c.loop-state.invariant
-    (takes_is (ap (λ (n : ℕ). 44 ∷ decimal n) (byte_one_if (eqb (get_or c.args.self.now.bytes.now (1 + c.loop-state.state) 0) 1))) c.put_field.ensures)
 
 pub returns : goal.returns
 returns g c =
-    let e : c.loop-state.state ≡ c.args.self.now.states = omega arith in
-    let flags : ℕ → List ℕ = λ n. map (λ s. one_if (eqb (get_or c.args.self.now.bytes.now (1 + s) 0) 1)) (range_with_len 0 n) in
-    takes_is (ap (λ (n : ℕ). line 65 (flags n)) e) (takes_line (flags c.loop-state.state) c.put.ensures c.loop-state.invariant c.put-2.ensures)
+    let k : ℕ = c.args.self.now.states in
+    let bs : List ℕ = c.args.self.now.bytes.now in
+    let flag : ℕ → ℕ = λ b. one_if (eqb b 1) in
+    let e : 1 + c.from.result - 1 ≡ k = omega arith in
+    let room : 1 + k ≤ length bs = omega (arith, c.args.self.now.long, c.args.self.now.few) in
+    takes_line (map (λ s. flag (get_or bs (1 + s) 0)) (range_with_len 0 k)) c.put.ensures
+    (takes_is (ap fields (ap (λ (n : ℕ). map flag (take n (drop 1 bs))) e ∙ side_by_side flag bs 1 k room))
+    (c.put_fields.ensures flag (λ b n h p. search rules)))
+    c.put-2.ensures

@@ -1,21 +1,26 @@
 -- The lines of one inner label more.
-use Rattle.std.proofs.Common.{◌≡◌, ℕ, ◌+◌, refl, ap, arith}
+use Rattle.std.proofs.Common.{◌≡◌, ℕ, ◌+◌, ◌-◌, ap, arith}
 use Rattle.tables.specs.Texts.{over}
 use Rattle.listing.specs.Rows.{read, marks_text}
 use Rattle.listing.proofs.Takings.{takes_is, takes_none, takes_over}
 use Rattle.listing.proofs.text.Slot.put_inners.Goals as goal
 
-pub loop-nth-init : goal.loop-nth-init
-loop-nth-init g c = takes_none
+pub loop-label-init : goal.loop-label-init
+loop-label-init g c =
+    let sh = c.args.self.now.layout.shape in
+    let e : 0 ≡ sh.leaves - sh.leaves = omega arith in
+    takes_is (ap (λ (n : ℕ). over sh.leaves n (marks_text sh (read c.args.self.now))) e) takes_none
 
-pub loop-nth-preserved : goal.loop-nth-preserved
-loop-nth-preserved g c =
-    takes_over (marks_text c.args.self.now.layout.shape (read c.args.self.now))
-    c.args.self.now.layout.shape.leaves c.loop-nth.nth (c.args.self.now.layout.shape.leaves + c.loop-nth.nth) refl c.loop-nth.invariant c.put_label.ensures
+pub loop-label-preserved : goal.loop-label-preserved
+loop-label-preserved g c =
+    let sh = c.args.self.now.layout.shape in
+    let e : c.loop-label.label - sh.leaves + 1 ≡ c.loop-label.label + 1 - sh.leaves = omega arith in
+    takes_is (ap (λ (n : ℕ). over sh.leaves n (marks_text sh (read c.args.self.now))) e)
+    (takes_over (marks_text sh (read c.args.self.now)) sh.leaves (c.loop-label.label - sh.leaves) c.loop-label.label (omega arith)
+    c.loop-label.invariant c.put_label.ensures)
 
 pub returns : goal.returns
 returns g c =
-    let e : c.loop-nth.nth ≡ c.args.self.now.layout.shape.inners = omega arith in
-    takes_is
-    (ap (λ (n : ℕ). over c.args.self.now.layout.shape.leaves n (marks_text c.args.self.now.layout.shape (read c.args.self.now))) e)
-    c.loop-nth.invariant
+    let sh = c.args.self.now.layout.shape in
+    let e : c.loop-label.label - sh.leaves ≡ sh.inners = omega arith in
+    takes_is (ap (λ (n : ℕ). over sh.leaves n (marks_text sh (read c.args.self.now))) e) c.loop-label.invariant

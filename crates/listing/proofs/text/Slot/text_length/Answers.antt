@@ -12,4 +12,5 @@ pub returns : goal.returns
 returns c =
     let T : Table = read c.args.self.now in
     counted_all c.put_text.new.sink.length (table_text c.args.self.now.layout.shape T) (takes_all c.put_text.ensures (λ _. refl))
-    (text_short c.args.self.now.layout.shape T c.requires.fits.shape (omega (arith, c.requires.few, c.requires.fits.few)))
+    (text_short c.args.self.now.layout.shape T c.args.self.now.layout.within.shape
+    (omega (arith, c.args.self.now.few, c.args.self.now.layout.within.few)))

@@ -14,5 +14,5 @@ returns c =
     let front : c.put_text.new.sink.buffer.now
     ≡ placed (table_text c.args.self.now.layout.shape (read c.args.self.now)) c.args.buffer.now
     = pasted_front c.put_text.new.sink.at c.args.buffer.now c.put_text.new.sink.buffer.now
-    (table_text c.args.self.now.layout.shape (read c.args.self.now)) t.1 c.requires.1 in
+    (table_text c.args.self.now.layout.shape (read c.args.self.now)) t.1 c.requires in
     search rules
