@@ -62,13 +62,7 @@ mod tests {
     fn numbers_of_two_digits(rt: HostRuntime) {
         let mut image = [0u8; 303];
         image[0] = 12;
-        image[12] = 1;
-        image[13] = 10;
-        image[14] = 11;
-        image[15] = 9;
-        image[16] = 11;
-        image[17] = 12;
-        image[18] = 255;
+        image[12..19].copy_from_slice(&[1, 10, 11, 9, 11, 12, 255]);
         let mut buffer = [7u8; 900];
         let answer = list_table(SHAPE, 12, &image, &mut buffer);
         assert_eq!(rt; answer, Ok(818));

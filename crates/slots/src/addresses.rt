@@ -24,7 +24,7 @@ impl Addresses {
         if usize::from(shape.tracks) > Shape::MOST_TRACKS {
             return None;
         }
-        if most < 1 || most > Layout::MOST_STATES {
+        if !(1..=Layout::MOST_STATES).contains(&most) {
             return None;
         }
         Some(Addresses { shape, most })

@@ -1,6 +1,5 @@
 // Where the bytes of a table stand.
 ghost use Rattle.std.specs.Prelude.{◌≡◌, ◌+◌, ◌/◌, ◌%◌, ◌^◌, ◌<◌, ◌≤◌, if◌then◌else◌, Some, None, MatchOption, true, false};
-ghost use Rattle.trees.specs.Shapes.{LeafLabel, InnerLabel, Marks};
 ghost use Rattle.tables.specs.Images.{leaf_rows, inner_rows, width, leaf_address, inner_address, fits, Fits};
 
 use crate::addresses::Addresses;
@@ -21,17 +20,12 @@ impl Layout {
     pub fn new(shape: Shape, most: usize) -> Option<Layout>
         ensures { MatchOption result (fits shape most ≡ false) (λ l. (fits shape most ≡ true) × ((l.shape ≡ shape) × (l.most ≡ most))) }
     {
-        let Shape {
-            leaves,
-            inners,
-            tracks,
-        } = shape;
         Shape::new(
-            usize::from(leaves),
-            usize::from(inners),
-            usize::from(tracks),
+            usize::from(shape.leaves),
+            usize::from(shape.inners),
+            usize::from(shape.tracks),
         )?;
-        if most < 1 || most > Self::MOST_STATES {
+        if !(1..=Self::MOST_STATES).contains(&most) {
             return None;
         }
         Some(Layout { shape, most })
@@ -89,14 +83,15 @@ impl Layout {
     }
 
     pub fn leaf_address(self, label: u8, marks: u8) -> usize
-        requires { (LeafLabel self.shape label) × (Marks self.shape marks) }
         ensures { result ≡ leaf_address self.shape self.most label marks }
     {
         self.addresses().leaf(label, marks)
     }
 
     pub fn inner_address(self, label: u8, marks: u8, left: usize, right: usize) -> usize
-        requires { (InnerLabel self.shape label) × ((Marks self.shape marks) × ((left < 32) × (right < 32))) }
+        requires label { self.shape.leaves ≤ label }
+        requires left { left < 32 }
+        requires right { right < 32 }
         ensures { result ≡ inner_address self.shape self.most label marks left right }
     {
         self.addresses().inner(label, marks, left, right)
