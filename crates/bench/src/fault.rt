@@ -1,0 +1,15 @@
+// What stops the program, or a run of rules: no memory or output, a refusal where none is due, a table that is not built.
+use crate::image::Unbuilt;
+use std::io;
+use thiserror::Error;
+use trees::Refusal;
+
+#[derive(Debug, Drop, Error)]
+pub enum Fault {
+    #[error("{0}")]
+    Io(#[from] io::Error),
+    #[error("{0}")]
+    Refused(#[from] Refusal),
+    #[error("a table is not built: {0:?}")]
+    Unbuilt(#[from] Unbuilt),
+}
