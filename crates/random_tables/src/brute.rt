@@ -1,8 +1,8 @@
 // The image of a machine's table by brute force: closures over all codes until nothing changes, with no regard to time.
-// Codes are below 16, and a set of codes is a number: code k is a member where bit k is set.
-use crate::fault::Fault;
+// Codes are below 16.
+use crate::bit_set::BitSet;
 use machine::Machine;
-use std::alloc::Global;
+use std::alloc::{AllocError, Global};
 use trees::Shape;
 
 const CODES: u64 = 16;
@@ -13,312 +13,271 @@ struct Row {
     marks: u8,
 }
 
-// The leaf steps and the inner steps over one pair, by label and then marks.
-#[derive(Drop)]
-struct Steps {
-    leaf: Vec<Row>,
-    inner: Vec<Row>,
-}
-
-fn rows(heap: Global, first: u8, labels: u8, tracks: u8) -> Result<Vec<Row>, Fault> {
-    let mut rows = Vec::new(heap);
-    for nth in 0..labels {
-        for marks in 0..1u8 << tracks % 8 {
-            let label = first.wrapping_add(nth);
-            rows.push(Row { label, marks })?;
-        }
+fn rows(alloc: Global, first: u8, labels: u8, tracks: u8) -> Result<Vec<Row>, AllocError> {
+    let mut rows = Vec::new(alloc);
+    for label in first..first.saturating_add(labels) {
+        rows.extend((0..1u8 << tracks % 8).map(|marks| Row { label, marks }))?;
     }
     Ok(rows)
 }
 
-fn steps_of(heap: Global, shape: Shape) -> Result<Steps, Fault> {
-    Ok(Steps {
-        leaf: rows(heap, 0, shape.leaves, shape.tracks)?,
-        inner: rows(heap, shape.leaves, shape.inners, shape.tracks)?,
-    })
-}
-
-fn has(set: u64, code: u64) -> bool {
-    set >> (code % CODES) & 1 == 1
-}
-
-fn only(code: u64) -> u64 {
-    1u64 << (code % CODES)
-}
-
-fn by_leaves<M: Machine>(machine: &M, steps: &Steps) -> u64 {
-    let mut set = 0;
-    for row in steps.leaf.iter() {
-        set |= only(machine.leaf(row.label, row.marks));
-    }
-    set
-}
-
-fn by_pair<M: Machine>(machine: &M, steps: &Steps, x: u64, y: u64) -> u64 {
-    let mut set = 0;
-    for row in steps.inner.iter() {
-        set |= only(machine.inner(row.label, row.marks, x, y));
-    }
-    set
-}
-
-// The set with what its pairs reach.
-fn closed_once<M: Machine>(machine: &M, steps: &Steps, set: u64) -> u64 {
-    let mut next = set;
-    for x in 0..CODES {
-        for y in 0..CODES {
-            if has(set, x) && has(set, y) {
-                next |= by_pair(machine, steps, x, y);
-            }
+// What the step leaves once it changes nothing more, or after so many rounds.
+fn settled<T: Copy + PartialEq, F: Fn(T) -> T>(rounds: u64, start: T, step: F) -> T
+    requires { F.IsAlwaysCallable step }
+{
+    let mut now = start;
+    for _ in 0..rounds {
+        let next = step(now);
+        if next == now {
+            return now;
         }
+        now = next;
     }
-    next
+    now
 }
 
-fn reached<M: Machine>(machine: &M, steps: &Steps) -> u64 {
-    let mut set = by_leaves(machine, steps);
-    for _ in 0..CODES {
-        let next = closed_once(machine, steps, set);
-        if next == set {
-            return set;
+// A machine, with its leaf steps and its inner steps over one pair, by label and then marks.
+#[derive(Drop)]
+struct Steps<'m, M> {
+    machine: &'m M,
+    leaf: Vec<Row>,
+    inner: Vec<Row>,
+}
+
+impl<'m, M: Machine> Steps<'m, M> {
+    fn new(alloc: Global, machine: &'m M) -> Result<Steps<'m, M>, AllocError> {
+        let Shape {
+            leaves,
+            inners,
+            tracks,
+        } = machine.shape();
+        Ok(Steps {
+            machine,
+            leaf: rows(alloc, 0, leaves, tracks)?,
+            inner: rows(alloc, leaves, inners, tracks)?,
+        })
+    }
+
+    fn at_leaf(&self, row: Row) -> u64 {
+        self.machine.leaf(row.label, row.marks)
+    }
+
+    fn at_inner(&self, row: Row, left: u64, right: u64) -> u64 {
+        self.machine.inner(row.label, row.marks, left, right)
+    }
+
+    fn by_leaves(&self) -> BitSet {
+        self.leaf.iter().fold(BitSet::EMPTY, |set, row| {
+            set | BitSet::only(self.at_leaf(*row))
+        })
+    }
+
+    fn by_pair(&self, left: u64, right: u64) -> BitSet {
+        self.inner.iter().fold(BitSet::EMPTY, |set, row| {
+            set | BitSet::only(self.at_inner(*row, left, right))
+        })
+    }
+
+    fn by_left(&self, left: u64, set: BitSet) -> BitSet {
+        set.into_iter().fold(BitSet::EMPTY, |reached, right| {
+            reached | self.by_pair(left, right)
+        })
+    }
+
+    // The set with what its pairs reach.
+    fn closed_once(&self, set: BitSet) -> BitSet {
+        set.into_iter()
+            .fold(set, |reached, left| reached | self.by_left(left, set))
+    }
+
+    fn reached(&self) -> BitSet {
+        settled(CODES, self.by_leaves(), |set| self.closed_once(set))
+    }
+
+    // Whether a step with the code z leads to a pair that is told apart.
+    fn step_tells(&self, told: &Told, x: u64, y: u64, z: u64) -> bool {
+        self.inner.iter().any(|row| {
+            told.has(self.at_inner(*row, x, z), self.at_inner(*row, y, z))
+                || told.has(self.at_inner(*row, z, x), self.at_inner(*row, z, y))
+        })
+    }
+
+    fn tells(&self, known: BitSet, told: &Told, x: u64, y: u64) -> bool {
+        self.machine.is_final(x) != self.machine.is_final(y)
+            || known.into_iter().any(|z| self.step_tells(told, x, y, z))
+    }
+
+    // The codes that are told apart from x by the pairs told apart so far.
+    fn told_from(&self, known: BitSet, told: &Told, x: u64) -> BitSet {
+        known
+            .into_iter()
+            .filter(|y| told.has(x, *y) || self.tells(known, told, x, *y))
+            .fold(BitSet::EMPTY, |set, y| set | BitSet::only(y))
+    }
+
+    fn told_once(&self, known: BitSet, told: Told) -> Told {
+        let mut more = told;
+        for x in known {
+            more.put(x, self.told_from(known, &told, x));
         }
-        set = next;
+        more
     }
-    set
+
+    fn told_apart(&self, known: BitSet) -> Told {
+        let none = Told {
+            rows: [BitSet::EMPTY; 16],
+        };
+        settled(CODES * CODES, none, |told| self.told_once(known, told))
+    }
 }
 
-fn size(set: u64) -> usize {
-    let mut size = 0usize;
-    for code in 0..CODES {
-        size = size.saturating_add(usize::from(has(set, code)));
-    }
-    size
-}
-
-// Pairs of codes that are told apart.
-#[derive(Clone, Copy)]
+// Of each code, those that are told apart from it.
+#[derive(Clone, Copy, PartialEq)]
 struct Told {
-    rows: [u64; 16],
+    rows: [BitSet; 16],
 }
 
 impl Told {
     fn has(&self, x: u64, y: u64) -> bool {
-        has(self.rows[(x % 16) as usize], y)
+        self.rows[(x % CODES) as usize].has(y)
     }
 
-    fn put(&mut self, x: u64, y: u64) {
-        self.rows[(x % 16) as usize] |= only(y);
-        self.rows[(y % 16) as usize] |= only(x);
+    fn put(&mut self, x: u64, others: BitSet) {
+        self.rows[(x % CODES) as usize] |= others;
     }
 }
 
-// Whether a step with the code z leads to a pair that is told apart.
-fn steps_tell<M: Machine>(machine: &M, steps: &Steps, told: &Told, x: u64, y: u64, z: u64) -> bool {
-    for row in steps.inner.iter() {
-        let Row { label, marks } = *row;
-        let left = machine.inner(label, marks, x, z);
-        let right = machine.inner(label, marks, z, x);
-        if told.has(left, machine.inner(label, marks, y, z))
-            || told.has(right, machine.inner(label, marks, z, y))
-        {
-            return true;
+// The classes of codes not told apart: the first code of each, in the order in which the classes are met.
+#[derive(Drop)]
+struct Classes<'s, 'm, M> {
+    steps: &'s Steps<'m, M>,
+    told: Told,
+    firsts: Vec<u64>,
+}
+
+impl<M: Machine> Classes<'_, '_, M> {
+    // The number of the code's class, or the next one where the class is not met yet.
+    fn class_of(&self, code: u64) -> usize {
+        self.firsts
+            .iter()
+            .position(|first| !self.told.has(*first, code))
+            .unwrap_or(self.firsts.len())
+    }
+
+    fn meet(&mut self, code: u64) -> Result<(), AllocError> {
+        if self.class_of(code) == self.firsts.len() {
+            self.firsts.push(code)?;
+        }
+        Ok(())
+    }
+
+    fn meet_leaves(&mut self) -> Result<(), AllocError> {
+        let steps = self.steps;
+        for row in &steps.leaf {
+            self.meet(steps.at_leaf(*row))?;
+        }
+        Ok(())
+    }
+
+    fn meet_pair(&mut self, left: u64, right: u64) -> Result<(), AllocError> {
+        let steps = self.steps;
+        for row in &steps.inner {
+            self.meet(steps.at_inner(*row, left, right))?;
+        }
+        Ok(())
+    }
+
+    // The pairs of a class with those before it: the later at the right, itself with itself, the later at the left.
+    fn meet_ring(&mut self, alloc: Global, m: usize) -> Result<(), AllocError> {
+        let Some(later) = self.firsts.get(m).copied() else {
+            return Ok(());
+        };
+        let earlier: Vec<u64> = self.firsts.iter().copied().take(m).collect(alloc)?;
+        for first in &earlier {
+            self.meet_pair(*first, later)?;
+        }
+        self.meet_pair(later, later)?;
+        for first in &earlier {
+            self.meet_pair(later, *first)?;
+        }
+        Ok(())
+    }
+
+    fn meet_all(&mut self, alloc: Global) -> Result<(), AllocError> {
+        self.meet_leaves()?;
+        for m in 0..16 {
+            self.meet_ring(alloc, m)?;
+        }
+        Ok(())
+    }
+
+    fn byte_of(&self, code: u64) -> u8 {
+        u8::try_from(self.class_of(code)).unwrap_or(u8::MAX)
+    }
+
+    // Of two states the class of their step, else 0.
+    fn inner_cell(&self, row: Row, x: usize, y: usize) -> u8 {
+        match (self.firsts.get(x), self.firsts.get(y)) {
+            (Some(left), Some(right)) => self.byte_of(self.steps.at_inner(row, *left, *right)),
+            _ => 0,
         }
     }
-    false
-}
 
-fn tells<M: Machine>(machine: &M, steps: &Steps, known: u64, told: &Told, x: u64, y: u64) -> bool {
-    if machine.is_final(x) != machine.is_final(y) {
-        return true;
+    fn final_cell(&self, x: usize) -> u8 {
+        self.firsts
+            .get(x)
+            .map_or(0, |first| u8::from(self.steps.machine.is_final(*first)))
     }
-    for z in 0..CODES {
-        if has(known, z) && steps_tell(machine, steps, told, x, y, z) {
-            return true;
+
+    fn put_row(&self, row: Row, most: usize, image: &mut Vec<u8>) -> Result<(), AllocError> {
+        for x in 0..most {
+            image.extend((0..most).map(|y| self.inner_cell(row, x, y)))?;
         }
+        Ok(())
     }
-    false
-}
 
-// Marks the pairs that are told apart by those marked so far, and says whether there are any.
-fn mark<M: Machine>(machine: &M, steps: &Steps, known: u64, told: &mut Told) -> bool {
-    let before = *told;
-    let mut more = false;
-    for x in 0..CODES {
-        for y in 0..x {
-            if has(known, x)
-                && has(known, y)
-                && !before.has(x, y)
-                && tells(machine, steps, known, &before, x, y)
-            {
-                told.put(x, y);
-                more = true;
-            }
+    fn image(&self, alloc: Global, most: usize) -> Result<Vec<u8>, AllocError> {
+        let steps = self.steps;
+        let states = u8::try_from(self.firsts.len()).unwrap_or(u8::MAX);
+        let mut image = vec![in alloc; states]?;
+        image.extend((0..most).map(|x| self.final_cell(x)))?;
+        image.extend(
+            steps
+                .leaf
+                .iter()
+                .map(|row| self.byte_of(steps.at_leaf(*row))),
+        )?;
+        for row in &steps.inner {
+            self.put_row(*row, most, &mut image)?;
         }
+        Ok(image)
     }
-    more
-}
-
-fn told_apart<M: Machine>(machine: &M, steps: &Steps, known: u64) -> Told {
-    let mut told = Told { rows: [0; 16] };
-    for _ in 0..CODES * CODES {
-        if !mark(machine, steps, known, &mut told) {
-            return told;
-        }
-    }
-    told
-}
-
-// The number of the code's class: the first code of each class met is kept.
-fn class_of(met: &Vec<u64>, told: &Told, code: u64) -> Option<u8> {
-    let mut number = 0u8;
-    for first in met.iter() {
-        if !told.has(*first, code) {
-            return Some(number);
-        }
-        number = number.saturating_add(1);
-    }
-    None
-}
-
-fn meet(met: &mut Vec<u64>, told: &Told, code: u64) -> Result<(), Fault> {
-    if class_of(met, told, code).is_none() {
-        met.push(code)?;
-    }
-    Ok(())
-}
-
-fn meet_pair<M: Machine>(
-    machine: &M,
-    steps: &Steps,
-    told: &Told,
-    met: &mut Vec<u64>,
-    x: usize,
-    y: usize,
-) -> Result<(), Fault> {
-    let (Some(left), Some(right)) = (met.get(x).copied(), met.get(y).copied()) else {
-        return Ok(());
-    };
-    for row in steps.inner.iter() {
-        meet(met, told, machine.inner(row.label, row.marks, left, right))?;
-    }
-    Ok(())
-}
-
-// The pairs of a class with those before it: the later at the right, itself with itself, the later at the left.
-fn meet_ring<M: Machine>(
-    machine: &M,
-    steps: &Steps,
-    told: &Told,
-    met: &mut Vec<u64>,
-    m: usize,
-) -> Result<(), Fault> {
-    for x in 0..m {
-        meet_pair(machine, steps, told, met, x, m)?;
-    }
-    meet_pair(machine, steps, told, met, m, m)?;
-    for y in 0..m {
-        meet_pair(machine, steps, told, met, m, y)?;
-    }
-    Ok(())
-}
-
-// The first code of each class, in the order in which the classes are met.
-fn numbered<M: Machine>(
-    heap: Global,
-    machine: &M,
-    steps: &Steps,
-    told: &Told,
-) -> Result<Vec<u64>, Fault> {
-    let mut met = Vec::new(heap);
-    for row in steps.leaf.iter() {
-        meet(&mut met, told, machine.leaf(row.label, row.marks))?;
-    }
-    for m in 0..16 {
-        meet_ring(machine, steps, told, &mut met, m)?;
-    }
-    Ok(met)
-}
-
-// The inner cells of a row: of two states the class of their step, else 0.
-fn put_row<M: Machine>(
-    machine: &M,
-    row: Row,
-    told: &Told,
-    met: &Vec<u64>,
-    most: usize,
-    image: &mut Vec<u8>,
-) -> Result<(), Fault> {
-    for x in 0..most {
-        for y in 0..most {
-            let cell = match (met.get(x), met.get(y)) {
-                (Some(left), Some(right)) => {
-                    let code = machine.inner(row.label, row.marks, *left, *right);
-                    class_of(met, told, code).unwrap_or(255)
-                }
-                _ => 0,
-            };
-            image.push(cell)?;
-        }
-    }
-    Ok(())
-}
-
-// The bytes before the cells: the number of states, and which are final.
-fn put_finals<M: Machine>(
-    machine: &M,
-    met: &Vec<u64>,
-    most: usize,
-    image: &mut Vec<u8>,
-) -> Result<(), Fault> {
-    image.push((met.len() & 255) as u8)?;
-    for state in 0..most {
-        image.push(match met.get(state) {
-            Some(code) => u8::from(machine.is_final(*code)),
-            None => 0,
-        })?;
-    }
-    Ok(())
-}
-
-fn write<M: Machine>(
-    heap: Global,
-    machine: &M,
-    steps: &Steps,
-    told: &Told,
-    most: usize,
-) -> Result<Vec<u8>, Fault> {
-    let met = numbered(heap, machine, steps, told)?;
-    let mut image = Vec::new(heap);
-    put_finals(machine, &met, most, &mut image)?;
-    for row in steps.leaf.iter() {
-        let code = machine.leaf(row.label, row.marks);
-        image.push(class_of(&met, told, code).unwrap_or(255))?;
-    }
-    for row in steps.inner.iter() {
-        put_row(machine, *row, told, &met, most, &mut image)?;
-    }
-    Ok(image)
 }
 
 #[derive(Drop)]
 pub struct Brute {
     pub image: Vec<u8>,
-    pub codes: usize,
+    pub codes: u32,
 }
 
 // The image of the machine's table and how many codes it reaches, or none where those are more than `most`.
 pub fn image_of<M: Machine>(
-    heap: Global,
+    alloc: Global,
     machine: &M,
     most: usize,
-) -> Result<Option<Brute>, Fault> {
-    let steps = steps_of(heap, machine.shape())?;
-    let known = reached(machine, &steps);
-    let codes = size(known);
-    if codes > most {
+) -> Result<Option<Brute>, AllocError> {
+    let steps = Steps::new(alloc, machine)?;
+    let known = steps.reached();
+    let codes = known.len();
+    if codes as usize > most {
         return Ok(None);
     }
-    let told = told_apart(machine, &steps, known);
-    let image = write(heap, machine, &steps, &told, most)?;
+    let mut classes = Classes {
+        steps: &steps,
+        told: steps.told_apart(known),
+        firsts: Vec::new(alloc),
+    };
+    classes.meet_all(alloc)?;
+    let image = classes.image(alloc, most)?;
     Ok(Some(Brute { image, codes }))
 }

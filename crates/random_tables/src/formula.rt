@@ -1,33 +1,24 @@
 // Random formulas, and of which markings of a tree each holds, as set logic says it.
-use crate::fault::Fault;
+use crate::bit_set::BitSet;
 use crate::random::Random;
-use crate::small_tree::Tree;
-use std::alloc::Global;
+use crate::small_tree::{Node, Tree};
+use atoms::Atom;
+use std::alloc::{AllocError, Global};
 use trees::Shape;
 
-#[derive(Clone, Copy)]
-pub enum Atom {
-    Sub(u8, u8),
-    Lab(u8, u8),
-    Sing(u8),
-    Left(u8, u8),
-    Right(u8, u8),
-    Below(u8, u8),
-}
-
-// A formula over earlier ones, which it names by their places.
+// A formula over earlier ones, which it names by their places: parts are shared, and the table of each is built once.
 #[derive(Clone, Copy)]
 pub enum Formula {
     Atom(Atom),
     Not(usize),
     Both(usize, usize),
     Either(usize, usize),
-    Exists(u8, usize),
+    Exists(usize, usize),
 }
 
 // A track, mostly another one.
 fn draw_other(random: &mut Random, shape: Shape, i: u8) -> u8 {
-    let j = random.byte(u64::from(shape.tracks));
+    let j = random.byte_below(shape.tracks);
     if i == j && random.below(8) > 0 {
         if i == 0 { 1 } else { i - 1 }
     } else {
@@ -36,12 +27,12 @@ fn draw_other(random: &mut Random, shape: Shape, i: u8) -> u8 {
 }
 
 fn draw_atom(random: &mut Random, shape: Shape) -> Atom {
-    let tracks = u64::from(shape.tracks);
-    let i = random.byte(tracks);
-    let j = draw_other(random, shape, i);
+    let i = random.byte_below(shape.tracks);
+    let j = usize::from(draw_other(random, shape, i));
+    let i = usize::from(i);
     match random.below(6) {
         0 => Atom::Sub(i, j),
-        1 => Atom::Lab(i, random.byte(3)),
+        1 => Atom::Lab(i, usize::from(random.byte_below(3))),
         2 => Atom::Sing(i),
         3 => Atom::Left(i, j),
         4 => Atom::Right(i, j),
@@ -50,197 +41,129 @@ fn draw_atom(random: &mut Random, shape: Shape) -> Atom {
 }
 
 // A formula over two of the first `earlier`.
-fn draw_layer(random: &mut Random, shape: Shape, earlier: u64) -> Formula {
+fn draw_layer(random: &mut Random, shape: Shape, earlier: u8) -> Formula {
     // rather a late one
-    let p = random.below(earlier).max(random.below(earlier)) as usize;
-    let q = random.below(earlier) as usize;
+    let p = usize::from(random.byte_below(earlier).max(random.byte_below(earlier)));
+    let q = usize::from(random.byte_below(earlier));
     match random.below(7) {
         0 => Formula::Not(p),
         1 | 2 => Formula::Both(p, q),
         3 | 4 => Formula::Either(p, q),
-        _ => Formula::Exists(random.byte(u64::from(shape.tracks)), p),
+        _ => Formula::Exists(usize::from(random.byte_below(shape.tracks)), p),
     }
 }
 
 // Six atoms, four formulas over them, three over those ten, two over those thirteen: layers nested to depth 3.
 pub fn draw_formulas(
-    heap: Global,
+    alloc: Global,
     random: &mut Random,
     shape: Shape,
-) -> Result<Vec<Formula>, Fault> {
-    let mut all = Vec::new(heap);
-    for _ in 0..6 {
-        all.push(Formula::Atom(draw_atom(random, shape)))?;
-    }
-    for earlier in [6u64, 6, 6, 6, 10, 10, 10, 13, 13] {
+) -> Result<Vec<Formula>, AllocError> {
+    let mut all: Vec<Formula> = (0..6)
+        .map(|_| Formula::Atom(draw_atom(random, shape)))
+        .collect(alloc)?;
+    for earlier in [6, 6, 6, 6, 10, 10, 10, 13, 13] {
         all.push(draw_layer(random, shape, earlier))?;
     }
     Ok(all)
 }
 
-fn is_one(set: u64) -> bool {
-    set.count_ones() == 1
-}
-
-// The nodes of a label.
-fn labelled(tree: &Tree, label: u8) -> u64 {
-    let mut set = 0;
-    let mut one = 1u64;
-    for node in tree.nodes.iter() {
-        if node.label == label {
-            set |= one;
-        }
-        one = one.wrapping_mul(2);
-    }
-    set
-}
-
-// What stands at these places of the nodes of a set: their left children, their right children, and those below them.
-#[derive(Clone, Copy)]
-struct Kin {
-    left: u64,
-    right: u64,
-    below: u64,
-}
-
-fn kin_of(tree: &Tree, set: u64) -> Kin {
-    let mut kin = Kin {
-        left: 0,
-        right: 0,
-        below: 0,
-    };
-    let mut one = 1u64;
-    for node in tree.nodes.iter() {
-        if set & one > 0 {
-            kin.left |= node.left;
-            kin.right |= node.right;
-            kin.below |= node.below;
-        }
-        one = one.wrapping_mul(2);
-    }
-    kin
-}
-
-// Whether each of the two sets has one node, and the second's is among those.
-fn related(upper: u64, lower: u64, those: u64) -> bool {
-    is_one(upper) && is_one(lower) && lower & those == lower
+// Whether each of the two sets has one node, and the second's is among the kin of the first's.
+fn related<F: Fn(&Node) -> BitSet>(tree: &Tree, upper: BitSet, lower: BitSet, kin: F) -> bool
+    requires { F.IsAlwaysCallable kin }
+{
+    upper.len() == 1 && lower.len() == 1 && tree.all(upper, |node| lower.is_within(kin(node)))
 }
 
 fn atom_holds(tree: &Tree, atom: Atom, marking: u64) -> bool {
+    let set = |track| tree.set(marking, track);
     match atom {
-        Atom::Sub(i, j) => {
-            let smaller = tree.set(marking, u64::from(i));
-            smaller & tree.set(marking, u64::from(j)) == smaller
-        }
-        Atom::Lab(i, label) => {
-            let set = tree.set(marking, u64::from(i));
-            set & labelled(tree, label) == set
-        }
-        Atom::Sing(i) => is_one(tree.set(marking, u64::from(i))),
-        Atom::Left(i, j) | Atom::Right(i, j) | Atom::Below(i, j) => {
-            let upper = tree.set(marking, u64::from(i));
-            let kin = kin_of(tree, upper);
-            let those = match atom {
-                Atom::Left(_, _) => kin.left,
-                Atom::Right(_, _) => kin.right,
-                _ => kin.below,
-            };
-            related(upper, tree.set(marking, u64::from(j)), those)
-        }
+        Atom::Sub(i, j) => set(i).is_within(set(j)),
+        Atom::Lab(i, label) => tree.all(set(i), |node| usize::from(node.label) == label),
+        Atom::Sing(i) => set(i).len() == 1,
+        Atom::Left(i, j) => related(tree, set(i), set(j), |node| node.left),
+        Atom::Right(i, j) => related(tree, set(i), set(j), |node| node.right),
+        Atom::Below(i, j) => related(tree, set(i), set(j), |node| node.below),
     }
 }
 
-// Whether a formula holds, for each marking.
-pub type Truth = Vec<bool>;
+// Whether a formula holds, for each marking of a tree.
+#[derive(Drop)]
+pub struct Truth {
+    holds: Vec<bool>,
+}
 
-fn atom_truth(heap: Global, tree: &Tree, atom: Atom) -> Result<Truth, Fault> {
-    let mut truth = Vec::new(heap);
-    for marking in 0..tree.markings() {
-        truth.push(atom_holds(tree, atom, marking))?;
+impl Truth {
+    fn new<F: Fn(u64) -> bool>(alloc: Global, tree: &Tree, holds: F) -> Result<Truth, AllocError>
+        requires { F.IsAlwaysCallable holds }
+    {
+        Ok(Truth {
+            holds: tree
+                .markings()
+                .map(|marking| holds(marking))
+                .collect(alloc)?,
+        })
     }
-    Ok(truth)
-}
 
-fn not_truth(heap: Global, of: &Truth) -> Result<Truth, Fault> {
-    let mut truth = Vec::new(heap);
-    for holds in of.iter() {
-        truth.push(!*holds)?;
+    pub fn get(&self, marking: u64) -> Option<bool> {
+        self.holds.get(marking as usize).copied()
     }
-    Ok(truth)
 }
 
-fn joined_truth(heap: Global, both: bool, p: &Truth, q: &Truth) -> Result<Truth, Fault> {
-    let mut truth = Vec::new(heap);
-    for (left, right) in p.iter().zip(q.iter()) {
-        truth.push(if both {
-            *left && *right
-        } else {
-            *left || *right
-        })?;
-    }
-    Ok(truth)
+fn holds(truths: &Vec<Truth>, p: usize, marking: u64) -> bool {
+    truths
+        .get(p)
+        .and_then(|truth| truth.get(marking))
+        .unwrap_or(false)
 }
 
-fn at(truth: &Truth, marking: u64) -> bool {
-    truth.get(marking as usize).copied().unwrap_or(false)
-}
-
-// Whether some set of nodes, put in the track of a marking that has none there, makes the formula hold.
-fn some_set(tree: &Tree, of: &Truth, track: u64, marking: u64) -> bool {
-    let shift = tree.size.wrapping_mul(track) % 64;
-    for set in 0..1u64 << (tree.size % 20) {
-        if at(of, marking | set << shift) {
-            return true;
-        }
-    }
-    false
-}
-
-fn some_truth(heap: Global, tree: &Tree, of: &Truth, track: u64) -> Result<Truth, Fault> {
-    let mut truth = Vec::new(heap);
-    let whole = tree.whole(track);
-    for marking in 0..tree.markings() {
-        let rest = (marking | whole) ^ whole;
-        // A marking comes after the one that has no node in the track.
-        let holds = if rest == marking {
-            some_set(tree, of, track, marking)
-        } else {
-            at(&truth, rest)
-        };
-        truth.push(holds)?;
-    }
-    Ok(truth)
-}
-
-fn truth_of(
-    heap: Global,
+// Whether some set of nodes, put in the track, makes the formula hold.
+fn some_truth(
+    alloc: Global,
     tree: &Tree,
-    formula: Formula,
     earlier: &Vec<Truth>,
-) -> Result<Truth, Fault> {
-    let (p, q) = match formula {
-        Formula::Atom(_) => (0, 0),
-        Formula::Not(p) | Formula::Exists(_, p) => (p, p),
-        Formula::Both(p, q) | Formula::Either(p, q) => (p, q),
-    };
-    let none = Vec::new(heap);
-    let p = earlier.get(p).unwrap_or(&none);
-    let q = earlier.get(q).unwrap_or(&none);
-    match formula {
-        Formula::Atom(atom) => atom_truth(heap, tree, atom),
-        Formula::Not(_) => not_truth(heap, p),
-        Formula::Both(_, _) => joined_truth(heap, true, p, q),
-        Formula::Either(_, _) => joined_truth(heap, false, p, q),
-        Formula::Exists(track, _) => some_truth(heap, tree, p, u64::from(track)),
-    }
+    track: usize,
+    p: usize,
+) -> Result<Truth, AllocError> {
+    let whole = tree.whole(track);
+    // what was in the track makes no difference, so the sets are tried where it has no node
+    let unmarked = Truth::new(alloc, tree, |marking| {
+        marking & whole == 0
+            && tree
+                .sets()
+                .any(|set| holds(earlier, p, marking | tree.marked(set, track)))
+    })?;
+    Truth::new(alloc, tree, |marking| {
+        unmarked.get(marking & !whole).unwrap_or(false)
+    })
 }
 
-// Of which markings of the tree each formula holds.
-pub fn truths(heap: Global, tree: &Tree, formulas: &Vec<Formula>) -> Result<Vec<Truth>, Fault> {
-    let mut all = Vec::new(heap);
-    for formula in formulas.iter() {
-        let truth = truth_of(heap, tree, *formula, &all)?;
-        all.push(truth)?;
+impl Formula {
+    // Of which markings of the tree it holds, where those before it hold of these.
+    pub fn truth(
+        self,
+        alloc: Global,
+        tree: &Tree,
+        earlier: &Vec<Truth>,
+    ) -> Result<Truth, AllocError> {
+        match self {
+            Formula::Atom(atom) => Truth::new(alloc, tree, |m| atom_holds(tree, atom, m)),
+            Formula::Not(p) => Truth::new(alloc, tree, |m| !holds(earlier, p, m)),
+            Formula::Both(p, q) => {
+                Truth::new(
+                    alloc,
+                    tree,
+                    |m| holds(earlier, p, m) && holds(earlier, q, m),
+                )
+            }
+            Formula::Either(p, q) => {
+                Truth::new(
+                    alloc,
+                    tree,
+                    |m| holds(earlier, p, m) || holds(earlier, q, m),
+                )
+            }
+            Formula::Exists(track, p) => some_truth(alloc, tree, earlier, track, p),
+        }
     }
-    Ok(all)
 }

@@ -1,22 +1,21 @@
 // Random machines: tables over random bytes.
 use crate::brute::{Brute, image_of};
-use crate::built::{Built, build};
-use crate::fault::Fault;
+use crate::image::{Image, Unbuilt, build};
 use crate::random::Random;
-use machine::Machine;
-use machines::SlotTable;
-use std::alloc::Global;
+use slots::Layout;
+use std::alloc::{AllocError, Global};
+use std::num::NonZeroU8;
 use trees::Shape;
 
 // The most states of a machine.
-const ROOM: usize = 12;
+const ROOM: u8 = 12;
 
 // How cells are drawn: any state; any byte; or so that the machine has codes alike, with this many classes of them.
 #[derive(Clone, Copy)]
 enum Drawing {
     States,
     Bytes,
-    Classes(u64),
+    Classes(NonZeroU8),
 }
 
 fn mixed(a: u64) -> u64 {
@@ -24,93 +23,100 @@ fn mixed(a: u64) -> u64 {
     b ^ b >> 32
 }
 
-// A code of the class, which is its rest by the number of classes.
-fn code_in(random: &mut Random, states: u64, classes: u64, class: u64) -> u64 {
-    let pick = random.below(states);
-    if classes == 0 {
-        return pick;
-    }
-    let code = (pick / classes)
-        .wrapping_mul(classes)
-        .wrapping_add(class % classes);
-    if code < states { code } else { class % classes }
-}
-
-fn draw(random: &mut Random, drawing: Drawing, states: u64, step: u64, x: u64, y: u64) -> u8 {
-    match drawing {
-        Drawing::States => random.byte(states),
-        Drawing::Bytes => random.byte(256),
-        Drawing::Classes(0) => 0,
-        Drawing::Classes(classes) => {
-            let seed = step
-                .wrapping_mul(1024)
-                .wrapping_add((x % classes).wrapping_mul(32))
-                .wrapping_add(y % classes);
-            (code_in(random, states, classes, mixed(seed)) & 255) as u8
-        }
-    }
-}
-
-// The cells of an inner step.
-fn draw_row(
-    random: &mut Random,
-    drawing: Drawing,
-    states: u64,
-    step: u64,
-    bytes: &mut Vec<u8>,
-) -> Result<(), Fault> {
-    for x in 0..ROOM as u64 {
-        for y in 0..ROOM as u64 {
-            bytes.push(draw(random, drawing, states, step, x, y))?;
-        }
-    }
-    Ok(())
-}
-
-fn draw_finals(
-    random: &mut Random,
-    drawing: Drawing,
-    seed: u64,
-    bytes: &mut Vec<u8>,
-) -> Result<(), Fault> {
-    for state in 0..ROOM as u64 {
-        let drawn = match drawing {
-            Drawing::Classes(classes) if classes > 0 => mixed(seed.wrapping_add(state % classes)),
-            _ => random.next(),
-        };
-        bytes.push((drawn & 1) as u8)?;
-    }
-    Ok(())
+// A class for these numbers, the same each time.
+fn class_for(seed: u64, classes: NonZeroU8) -> u8 {
+    let classes = classes.get();
+    (mixed(seed) % u64::from(classes)) as u8
 }
 
 // A number from 1 to `most`, rather a large one.
-fn draw_many(random: &mut Random, most: u64) -> u64 {
-    random.below(most).max(random.below(most)).saturating_add(1)
+fn draw_many(random: &mut Random, most: u8) -> NonZeroU8 {
+    let less = random.byte_below(most).max(random.byte_below(most));
+    NonZeroU8::MIN.saturating_add(less)
 }
 
-fn draw_bytes(heap: Global, random: &mut Random, shape: Shape) -> Result<Vec<u8>, Fault> {
-    let states = draw_many(random, ROOM as u64);
-    let drawing = match random.below(8) {
-        0 => Drawing::Bytes,
-        1 | 2 => Drawing::States,
-        _ => Drawing::Classes(draw_many(random, states)),
-    };
-    let seed = random.next();
-    let marks = 1u64 << (shape.tracks % 8);
-    let mut bytes = Vec::new(heap);
-    bytes.push((states & 255) as u8)?;
-    draw_finals(random, drawing, seed, &mut bytes)?;
-    for row in 0..u64::from(shape.leaves).wrapping_mul(marks) {
-        bytes.push(draw(random, drawing, states, seed.wrapping_add(row), 0, 0))?;
-    }
-    for row in 0..u64::from(shape.inners).wrapping_mul(marks) {
-        let step = seed.wrapping_add(1000).wrapping_add(row);
-        draw_row(random, drawing, states, step, &mut bytes)?;
-    }
-    Ok(bytes)
+// A machine in the making. What codes alike share comes from the seed.
+#[derive(Drop)]
+struct Draft<'r> {
+    random: &'r mut Random,
+    states: u8,
+    drawing: Drawing,
+    seed: u64,
 }
 
-#[derive(Clone, Copy)]
+impl Draft<'_> {
+    fn new(random: &mut Random) -> Draft<'_> {
+        let states = draw_many(random, ROOM).get();
+        let drawing = match random.below(8) {
+            0 => Drawing::Bytes,
+            1 | 2 => Drawing::States,
+            _ => Drawing::Classes(draw_many(random, states)),
+        };
+        let seed = random.next();
+        Draft {
+            random,
+            states,
+            drawing,
+            seed,
+        }
+    }
+
+    // A code of the class, which is its rest by the number of classes.
+    fn code_in(&mut self, classes: NonZeroU8, class: u8) -> u8 {
+        let pick = self.random.byte_below(self.states);
+        let code = (pick - pick % classes).saturating_add(class);
+        if code < self.states { code } else { class }
+    }
+
+    fn cell(&mut self, step: u64, x: u8, y: u8) -> u8 {
+        match self.drawing {
+            Drawing::States => self.random.byte_below(self.states),
+            Drawing::Bytes => self.random.byte(),
+            Drawing::Classes(classes) => {
+                let seed = step
+                    .wrapping_mul(1024)
+                    .wrapping_add(u64::from(x % classes) * 32)
+                    .wrapping_add(u64::from(y % classes));
+                self.code_in(classes, class_for(seed, classes))
+            }
+        }
+    }
+
+    fn is_final(&mut self, state: u8) -> bool {
+        let drawn = match self.drawing {
+            Drawing::Classes(classes) => {
+                mixed(self.seed.wrapping_add(u64::from(state % classes)))
+            }
+            _ => self.random.next(),
+        };
+        drawn % 2 == 1
+    }
+
+    // The cells of an inner step.
+    fn put_row(&mut self, step: u64, cells: &mut Vec<u8>) -> Result<(), AllocError> {
+        for x in 0..ROOM {
+            cells.extend((0..ROOM).map(|y| self.cell(step, x, y)))?;
+        }
+        Ok(())
+    }
+
+    fn cells(mut self, alloc: Global, shape: Shape) -> Result<Vec<u8>, AllocError> {
+        let marks = 1u64 << (shape.tracks % 8);
+        let leaf_rows = u64::from(shape.leaves) * marks;
+        let inner_rows = u64::from(shape.inners) * marks;
+        let leaf = self.seed;
+        let inner = self.seed.wrapping_add(1000);
+        let mut cells = vec![in alloc; self.states]?;
+        cells.extend((0..ROOM).map(|state| u8::from(self.is_final(state))))?;
+        cells.extend((0..leaf_rows).map(|row| self.cell(leaf.wrapping_add(row), 0, 0)))?;
+        for row in 0..inner_rows {
+            self.put_row(inner.wrapping_add(row), &mut cells)?;
+        }
+        Ok(cells)
+    }
+}
+
+#[derive(Clone, Copy, Default)]
 pub struct Tally {
     pub cases: u64,
     pub too_many: u64,
@@ -122,75 +128,51 @@ pub struct Tally {
 }
 
 impl Tally {
-    fn count_states(&mut self, states: u8, codes: usize) {
-        let at = (states % 13) as usize;
-        self.states[at] = self.states[at].saturating_add(1);
-        if usize::from(states) < codes {
+    fn count_states(&mut self, states: u8, codes: u32) {
+        let tables = &mut self.states[usize::from(states % 13)];
+        *tables = tables.saturating_add(1);
+        if u32::from(states) < codes {
             self.merged = self.merged.saturating_add(1);
         }
     }
 
-    fn count(&mut self, built: &Built, expected: &Option<Brute>) {
+    fn count(&mut self, built: &Result<Image, Unbuilt>, expected: &Option<Brute>) {
         self.cases = self.cases.saturating_add(1);
-        if !agree(built, expected) {
-            self.mismatches = self.mismatches.saturating_add(1);
-        } else if let Some(brute) = expected {
-            let states = brute.image.as_slice().first().copied().unwrap_or(0);
-            self.count_states(states, brute.codes);
-        } else {
-            self.too_many = self.too_many.saturating_add(1);
+        match (built, expected) {
+            (Ok(image), Some(brute)) if image.cells == brute.image => {
+                self.count_states(image.states(), brute.codes);
+            }
+            (Err(Unbuilt::TooMany), None) => self.too_many = self.too_many.saturating_add(1),
+            _ => self.mismatches = self.mismatches.saturating_add(1),
         }
     }
-}
 
-// Whether both say too many, or have the same bytes.
-fn agree(built: &Built, expected: &Option<Brute>) -> bool {
-    match built {
-        Built::Cells(cells) => match expected {
-            Some(brute) => cells.as_slice() == brute.image.as_slice(),
-            None => false,
-        },
-        Built::TooMany => expected.is_none(),
-        Built::Unserved => false,
+    fn try_one(&mut self, alloc: Global, random: &mut Random) -> Result<(), AllocError> {
+        let shape = Shape {
+            leaves: random.byte_below(3).saturating_add(1),
+            inners: random.byte_below(2).saturating_add(1),
+            tracks: random.byte_below(2).saturating_add(1),
+        };
+        let machine = Image {
+            layout: Layout {
+                shape,
+                most: usize::from(ROOM),
+            },
+            cells: Draft::new(random).cells(alloc, shape)?,
+        };
+        let most = usize::from(random.byte_below(9).saturating_add(4));
+        let expected = image_of(alloc, &machine.table(), most)?;
+        let built = build(alloc, &machine.table(), most)?;
+        self.count(&built, &expected);
+        Ok(())
     }
-}
-
-fn width_of(shape: Shape, most: usize) -> usize {
-    let marks = 1usize << (shape.tracks % 8);
-    let leaf = usize::from(shape.leaves).wrapping_mul(marks);
-    let inner = usize::from(shape.inners).wrapping_mul(marks);
-    1usize
-        .wrapping_add(most)
-        .wrapping_add(leaf)
-        .wrapping_add(inner.wrapping_mul(most).wrapping_mul(most))
-}
-
-fn try_one(heap: Global, random: &mut Random, tally: &mut Tally) -> Result<(), Fault> {
-    let shape = Shape {
-        leaves: random.byte(3).saturating_add(1),
-        inners: random.byte(2).saturating_add(1),
-        tracks: random.byte(2).saturating_add(1),
-    };
-    let bytes = draw_bytes(heap, random, shape)?;
-    let machine = SlotTable::new(bytes.as_slice(), shape, ROOM);
-    let most = usize::from(random.byte(9)).saturating_add(4);
-    let expected = image_of(heap, &machine, most)?;
-    let built = build(heap, &machine, most, width_of(shape, most))?;
-    tally.count(&built, &expected);
-    Ok(())
 }
 
 // Builds the tables of so many random machines, and compares them with those by brute force.
-pub fn try_machines(heap: Global, random: &mut Random, cases: u64) -> Result<Tally, Fault> {
-    let mut tally = Tally {
-        cases: 0,
-        too_many: 0,
-        merged: 0,
-        mismatches: 0,
-        states: [0; 13],
-    };
+pub fn try_machines(alloc: Global, random: &mut Random, cases: u64) -> Result<Tally, AllocError> {
+    let mut tally = Tally::default();
     for _ in 0..cases {
-        try_one(heap, random, &mut tally)?;
+        tally.try_one(alloc, random)?;
     }
     Ok(tally)
 }

@@ -2,46 +2,51 @@
 // trees. Every run draws the same cases; a mismatch would change what is printed.
 #![tactic(auto)]
 
+mod bit_set;
 mod brute;
-mod built;
 mod fault;
 mod formula;
+mod image;
 mod machine_cases;
 mod random;
 mod small_tree;
 mod verdicts;
 
 use fault::Fault;
-use machine_cases::try_machines;
+use machine_cases::{Tally, try_machines};
 use random::Random;
-use verdicts::try_verdicts;
+use std::io;
+use verdicts::{Verdicts, try_verdicts};
 
-fn show_machines(rt: &HostRuntime) -> Result<(), Fault> {
-    let tally = try_machines(rt.alloc(), &mut Random::new(20_250_101), 6000)?;
-    let cases = tally.cases;
-    let too_many = tally.too_many;
-    let merged = tally.merged;
-    let mismatches = tally.mismatches;
+fn show_machines(rt: &HostRuntime) -> io::Result<()> {
+    let Tally {
+        cases,
+        too_many,
+        merged,
+        mismatches,
+        states,
+    } = try_machines(rt.alloc(), &mut Random::new(20_250_101), 6000)?;
     println!(rt;
         "random machines: {cases} cases, {too_many} too many, {merged} with codes alike, {mismatches} mismatches"
     )?;
-    for (states, tables) in tally.states.iter().enumerate() {
+    for (states, tables) in states.iter().enumerate() {
         println!(rt; "  {states} states: {tables} tables")?;
     }
     Ok(())
 }
 
 fn show_verdicts(rt: &HostRuntime) -> Result<(), Fault> {
-    let verdicts = try_verdicts(rt.alloc(), &mut Random::new(77_777), 200, 20)?;
-    let rules = verdicts.rules;
-    let unbuilt = verdicts.unbuilt;
-    let states = verdicts.states;
-    let most = verdicts.most_states;
-    let yes = verdicts.yes;
-    let no = verdicts.no;
-    let mismatches = verdicts.mismatches;
+    let Verdicts {
+        rules,
+        unbuilt,
+        states,
+        most_states,
+        yes,
+        no,
+        mismatches,
+    } = try_verdicts(rt.alloc(), &mut Random::new(77_777), 200, 20)?;
     println!(rt;
-        "random rules: {rules} rules, {unbuilt} too many, {states} states in all, {most} at most"
+        "random rules: {rules} rules, {unbuilt} too many, {states} states in all, {most_states} at most"
     )?;
     println!(rt; "  verdicts: {yes} yes, {no} no, {mismatches} mismatches")?;
     Ok(())

@@ -1,4 +1,6 @@
 // Numbers that look random and are the same in every run.
+ghost use Rattle.std.specs.Prelude.{◌≤◌};
+
 #[derive(Drop)]
 pub struct Random {
     state: u64,
@@ -20,15 +22,21 @@ impl Random {
     }
 
     // A number below `limit`, or 0 where there is none.
-    pub fn below(&mut self, limit: u64) -> u64 {
+    pub fn below(&mut self, limit: u64) -> u64
+        ensures { result ≤ limit }
+    {
         if limit == 0 {
             return 0;
         }
         self.next() % limit
     }
 
-    pub fn byte(&mut self, limit: u64) -> u8 {
-        (self.below(limit) & 255) as u8
+    pub fn byte_below(&mut self, limit: u8) -> u8 {
+        self.below(u64::from(limit)) as u8
+    }
+
+    pub fn byte(&mut self) -> u8 {
+        (self.next() % 256) as u8
     }
 
     pub fn coin(&mut self) -> bool {

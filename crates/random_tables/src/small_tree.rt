@@ -1,128 +1,139 @@
 // Small random trees, and every way to mark one.
-// A set of nodes is a number: the node at place v of the listing is a member where bit v is set. A marking is the sets of
-// all tracks side by side, that of track 0 in the lowest bits.
-use crate::fault::Fault;
+// A set of nodes has the places of its nodes in the listing. A marking is the sets of all tracks side by side in the bits
+// of a number, that of track 0 in the lowest: a formula's truth is a list with a place for each marking.
+use crate::bit_set::BitSet;
 use crate::random::Random;
-use std::alloc::Global;
+use std::alloc::{AllocError, Global};
+use std::ops::Range;
 use trees::Shape;
 
 #[derive(Clone, Copy)]
 pub struct Node {
     pub label: u8,
-    // its left child, its right child, and all that hang below it, as sets
-    pub left: u64,
-    pub right: u64,
-    pub below: u64,
+    // its left child, its right child, and all that hang below it
+    pub left: BitSet,
+    pub right: BitSet,
+    pub below: BitSet,
 }
 
-#[derive(Drop)]
-pub struct Tree {
-    pub nodes: Vec<Node>,
-    pub size: u64,
-    pub tracks: u64,
+// An open part of a tree in the making: its root, and all its nodes.
+#[derive(Clone, Copy)]
+struct Part {
+    root: BitSet,
+    all: BitSet,
 }
 
-fn only(v: usize) -> u64 {
-    1u64 << (v % 64)
-}
-
-fn below(nodes: &Vec<Node>, v: usize) -> u64 {
-    match nodes.get(v) {
-        Some(node) => node.below,
-        None => 0,
+impl Part {
+    fn new(place: u64, node: Node) -> Part {
+        let root = BitSet::only(place);
+        Part {
+            root,
+            all: root | node.below,
+        }
     }
 }
 
-// A node over the newest two open parts.
-fn inner_node(nodes: &Vec<Node>, label: u8, left: usize, right: usize) -> Node {
+fn inner_node(label: u8, left: Part, right: Part) -> Node {
     Node {
         label,
-        left: only(left),
-        right: only(right),
-        below: only(left) | only(right) | below(nodes, left) | below(nodes, right),
+        left: left.root,
+        right: right.root,
+        below: left.all | right.all,
     }
 }
 
 fn leaf_node(label: u8) -> Node {
     Node {
         label,
-        left: 0,
-        right: 0,
-        below: 0,
+        left: BitSet::EMPTY,
+        right: BitSet::EMPTY,
+        below: BitSet::EMPTY,
     }
 }
 
-fn draw_nodes(
-    heap: Global,
-    random: &mut Random,
-    shape: Shape,
-    leaves: usize,
-) -> Result<Vec<Node>, Fault> {
-    let mut nodes = Vec::new(heap);
-    let mut open = Vec::new(heap);
-    let mut to_come = leaves;
-    for v in 0..leaves.saturating_mul(2).saturating_sub(1) {
-        if to_come > 0 && (open.len() < 2 || random.coin()) {
-            to_come -= 1;
-            nodes.push(leaf_node(random.byte(u64::from(shape.leaves))))?;
-        } else if let (Some(right), Some(left)) = (open.pop(), open.pop()) {
-            let label = shape
-                .leaves
-                .wrapping_add(random.byte(u64::from(shape.inners)));
-            nodes.push(inner_node(&nodes, label, left, right))?;
-        }
-        open.push(v)?;
-    }
-    Ok(nodes)
+#[derive(Drop)]
+pub struct Tree {
+    pub nodes: Vec<Node>,
+    pub tracks: u8,
 }
 
 pub fn draw_tree(
-    heap: Global,
+    alloc: Global,
     random: &mut Random,
     shape: Shape,
-    leaves: usize,
-) -> Result<Tree, Fault> {
-    let nodes = draw_nodes(heap, random, shape, leaves)?;
+    leaves: u8,
+) -> Result<Tree, AllocError> {
+    let mut nodes = Vec::new(alloc);
+    let mut open: Vec<Part> = Vec::new(alloc);
+    let mut to_come = leaves;
+    for place in 0..(2 * u64::from(leaves)).saturating_sub(1) {
+        let node = if to_come > 0 && (open.len() < 2 || random.coin()) {
+            to_come -= 1;
+            leaf_node(random.byte_below(shape.leaves))
+        } else if let (Some(right), Some(left)) = (open.pop(), open.pop()) {
+            let nth = random.byte_below(shape.inners);
+            inner_node(shape.leaves.saturating_add(nth), left, right)
+        } else {
+            break;
+        };
+        nodes.push(node)?;
+        open.push(Part::new(place, node))?;
+    }
     Ok(Tree {
-        size: nodes.len() as u64,
         nodes,
-        tracks: u64::from(shape.tracks),
+        tracks: shape.tracks,
     })
 }
 
 impl Tree {
-    // How many markings there are; a tree has so few nodes that they are below 2^20.
-    pub fn markings(&self) -> u64 {
-        1u64 << (self.size.wrapping_mul(self.tracks) % 20)
+    // Where the set of a track begins in a marking.
+    fn shift(&self, track: usize) -> usize {
+        self.nodes.len().wrapping_mul(track)
+    }
+
+    // All sets of nodes, as the bits that they take up; a tree has so few nodes that they are below 2^20.
+    pub fn sets(&self) -> Range<u64> {
+        0..1 << (self.nodes.len() % 20)
+    }
+
+    pub fn markings(&self) -> Range<u64> {
+        0..1 << (self.shift(usize::from(self.tracks)) % 20)
+    }
+
+    // The marking with this set in a track, and nothing in another.
+    pub fn marked(&self, set: u64, track: usize) -> u64 {
+        set << (self.shift(track) % 64)
     }
 
     // Every node of a track, as a marking.
-    pub fn whole(&self, track: u64) -> u64 {
-        let nodes = (1u64 << (self.size % 64)).wrapping_sub(1);
-        nodes << (self.size.wrapping_mul(track) % 64)
+    pub fn whole(&self, track: usize) -> u64 {
+        self.marked(!(u64::MAX << (self.nodes.len() % 64)), track)
     }
 
     // The set of a track.
-    pub fn set(&self, marking: u64, track: u64) -> u64 {
-        (marking & self.whole(track)) >> (self.size.wrapping_mul(track) % 64)
+    pub fn set(&self, marking: u64, track: usize) -> BitSet {
+        BitSet::from((marking & self.whole(track)) >> (self.shift(track) % 64))
     }
 
-    fn marks(&self, marking: u64, v: usize) -> u8 {
-        let mut marks = 0u8;
-        for track in 0..self.tracks.min(8) {
-            if self.set(marking, track) & only(v) > 0 {
-                marks |= 1u8 << track;
-            }
-        }
-        marks
+    fn marks(&self, marking: u64, place: u64) -> u8 {
+        (0..self.tracks)
+            .filter(|track| self.set(marking, usize::from(*track)).has(place))
+            .fold(0, |marks, track| marks | 1 << (track % 8))
     }
 
-    pub fn listing(&self, heap: Global, marking: u64) -> Result<Vec<u8>, Fault> {
-        let mut bytes = Vec::new(heap);
-        for (v, node) in self.nodes.iter().enumerate() {
-            bytes.push(node.label)?;
-            bytes.push(self.marks(marking, v))?;
-        }
-        Ok(bytes)
+    // Whether this holds of each node of the set.
+    pub fn all<F: Fn(&Node) -> bool>(&self, set: BitSet, holds: F) -> bool
+        requires { F.IsAlwaysCallable holds }
+    {
+        (0u64..)
+            .zip(self.nodes.iter())
+            .all(|(place, node)| !set.has(place) || holds(node))
+    }
+
+    pub fn listing(&self, alloc: Global, marking: u64) -> Result<Vec<u8>, AllocError> {
+        (0u64..)
+            .zip(self.nodes.iter())
+            .flat_map(|(place, node)| [node.label, self.marks(marking, place)])
+            .collect(alloc)
     }
 }

@@ -1,85 +1,92 @@
 // Random rules: the verdicts of their built tables against set logic.
-use crate::built::{Built, MOST, build};
 use crate::fault::Fault;
-use crate::formula::{Atom, Formula, Truth, draw_formulas, truths};
+use crate::formula::{Formula, Truth, draw_formulas};
+use crate::image::{Image, Unbuilt, build};
 use crate::random::Random;
 use crate::small_tree::{Tree, draw_tree};
-use atoms::{Below, Lab, Left, Right, Sing, Sub};
+use atoms::{Atom, Below, Lab, Left, Right, Sing, Sub};
 use layers::{Both, Either, Exists, Not};
 use machine::Machine;
-use machines::{Code, SlotTable, judge};
+use machines::{SlotTable, judge};
+use slots::Layout;
 use std::alloc::Global;
-use trees::{Refusal, Shape};
+use trees::Shape;
 
-// The bytes of an image at 2 leaf labels, 1 inner label, 3 tracks and 32 states.
-const WIDTH: usize = 8241;
+// A formula, and the image of its table, or none where it or one below it has too many states.
+#[derive(Drop)]
+struct Rule {
+    formula: Formula,
+    image: Option<Image>,
+}
 
-// The image of a formula's table, or none where it or one below it has too many states.
-type Image = Option<Vec<u8>>;
+fn built<M: Machine>(alloc: Global, machine: &M) -> Result<Image, Fault> {
+    Ok(build(alloc, machine, Layout::MOST_STATES)??)
+}
 
-fn built<M: Machine>(heap: Global, machine: &M) -> Result<Image, Fault> {
-    match build(heap, machine, MOST, WIDTH)? {
-        Built::Cells(cells) => Ok(Some(cells)),
-        Built::TooMany => Ok(None),
-        Built::Unserved => Err(Fault::Unserved),
+fn table(earlier: &Vec<Rule>, p: usize) -> Result<SlotTable<'_>, Unbuilt> {
+    match earlier.get(p) {
+        Some(
+            Rule {
+                image: Some(image),
+                ..
+            },
+        ) => Ok(image.table()),
+        _ => Err(Unbuilt::TooMany),
     }
 }
 
-fn atom_image(heap: Global, shape: Shape, atom: Atom) -> Result<Image, Fault> {
+fn atom_image(alloc: Global, shape: Shape, atom: Atom) -> Result<Image, Fault> {
     match atom {
-        Atom::Sub(i, j) => built(heap, &Sub::new(shape, usize::from(i), usize::from(j))?),
-        Atom::Lab(i, a) => built(heap, &Lab::new(shape, usize::from(i), usize::from(a))?),
-        Atom::Sing(i) => built(heap, &Sing::new(shape, usize::from(i))?),
-        Atom::Left(i, j) => built(heap, &Left::new(shape, usize::from(i), usize::from(j))?),
-        Atom::Right(i, j) => built(heap, &Right::new(shape, usize::from(i), usize::from(j))?),
-        Atom::Below(i, j) => built(heap, &Below::new(shape, usize::from(i), usize::from(j))?),
+        Atom::Sub(i, j) => built(alloc, &Sub::new(shape, i, j)?),
+        Atom::Lab(i, label) => built(alloc, &Lab::new(shape, i, label)?),
+        Atom::Sing(i) => built(alloc, &Sing::new(shape, i)?),
+        Atom::Left(i, j) => built(alloc, &Left::new(shape, i, j)?),
+        Atom::Right(i, j) => built(alloc, &Right::new(shape, i, j)?),
+        Atom::Below(i, j) => built(alloc, &Below::new(shape, i, j)?),
     }
 }
 
-fn table<'a>(shape: Shape, images: &'a Vec<Image>, at: usize) -> Option<SlotTable<'a>> {
-    let Some(Some(image)) = images.get(at) else {
-        return None;
-    };
-    Some(SlotTable::new(image.as_slice(), shape, MOST))
-}
-
-fn layer_image(
-    heap: Global,
+fn image_of(
+    alloc: Global,
     shape: Shape,
     formula: Formula,
-    images: &Vec<Image>,
+    earlier: &Vec<Rule>,
 ) -> Result<Image, Fault> {
     match formula {
-        Formula::Atom(atom) => atom_image(heap, shape, atom),
-        Formula::Not(p) => match table(shape, images, p) {
-            Some(below) => built(heap, &Not::new(below)),
-            None => Ok(None),
-        },
-        Formula::Exists(track, p) => match table(shape, images, p) {
-            Some(below) => built(heap, &Exists::new(below, usize::from(track))?),
-            None => Ok(None),
-        },
-        Formula::Both(p, q) => match (table(shape, images, p), table(shape, images, q)) {
-            (Some(left), Some(right)) => built(heap, &Both::new(left, right)?),
-            _ => Ok(None),
-        },
-        Formula::Either(p, q) => match (table(shape, images, p), table(shape, images, q)) {
-            (Some(left), Some(right)) => built(heap, &Either::new(left, right)?),
-            _ => Ok(None),
-        },
+        Formula::Atom(atom) => atom_image(alloc, shape, atom),
+        Formula::Not(p) => built(alloc, &Not::new(table(earlier, p)?)),
+        Formula::Exists(track, p) => built(alloc, &Exists::new(table(earlier, p)?, track)?),
+        Formula::Both(p, q) => { built(alloc, &Both::new(table(earlier, p)?, table(earlier, q)?)?) }
+        Formula::Either(p, q) => {
+            built(alloc, &Either::new(table(earlier, p)?, table(earlier, q)?)?)
+        }
     }
 }
 
-fn images_of(heap: Global, shape: Shape, formulas: &Vec<Formula>) -> Result<Vec<Image>, Fault> {
-    let mut images = Vec::new(heap);
-    for formula in formulas.iter() {
-        let image = layer_image(heap, shape, *formula, &images)?;
-        images.push(image)?;
-    }
-    Ok(images)
+fn rule_of(
+    alloc: Global,
+    shape: Shape,
+    formula: Formula,
+    earlier: &Vec<Rule>,
+) -> Result<Rule, Fault> {
+    let image = match image_of(alloc, shape, formula, earlier) {
+        Ok(image) => Some(image),
+        Err(Fault::Unbuilt(Unbuilt::TooMany)) => None,
+        Err(fault) => return Err(fault),
+    };
+    Ok(Rule { formula, image })
 }
 
-#[derive(Clone, Copy)]
+fn rules_of(alloc: Global, shape: Shape, formulas: &Vec<Formula>) -> Result<Vec<Rule>, Fault> {
+    let mut rules = Vec::new(alloc);
+    for formula in formulas {
+        let rule = rule_of(alloc, shape, *formula, &rules)?;
+        rules.push(rule)?;
+    }
+    Ok(rules)
+}
+
+#[derive(Clone, Copy, Default)]
 pub struct Verdicts {
     pub rules: u64,
     pub unbuilt: u64,
@@ -91,8 +98,8 @@ pub struct Verdicts {
 }
 
 impl Verdicts {
-    fn count(&mut self, expected: bool, answer: bool) {
-        if expected != answer {
+    fn count(&mut self, expected: Option<bool>, answer: bool) {
+        if expected != Some(answer) {
             self.mismatches = self.mismatches.saturating_add(1);
         } else if answer {
             self.yes = self.yes.saturating_add(1);
@@ -101,11 +108,11 @@ impl Verdicts {
         }
     }
 
-    fn count_image(&mut self, image: &Image) {
+    fn count_rule(&mut self, rule: &Rule) {
         self.rules = self.rules.saturating_add(1);
-        match image {
-            Some(bytes) => {
-                let states = bytes.as_slice().first().copied().unwrap_or(0);
+        match &rule.image {
+            Some(image) => {
+                let states = image.states();
                 self.states = self.states.saturating_add(u64::from(states));
                 self.most_states = self.most_states.max(states);
             }
@@ -114,102 +121,86 @@ impl Verdicts {
     }
 }
 
-// Half of the markings have few marks, so that sets of one node come up.
-fn draw_marking(random: &mut Random, tree: &Tree) -> u64 {
-    let marking = random.below(tree.markings());
-    if random.coin() {
-        marking & random.next() & random.next()
-    } else {
-        marking
-    }
+// Where rules and trees are drawn from, and the verdicts so far.
+#[derive(Drop)]
+struct Trial<'r> {
+    alloc: Global,
+    random: &'r mut Random,
+    verdicts: Verdicts,
 }
 
-fn verdict(machine: SlotTable<'_>, listing: &[u8]) -> Result<bool, Refusal> {
-    let mut stack = [0u8; 8];
-    judge(&machine, listing, &mut stack)
-}
-
-// Judges some markings of a tree by a rule's table.
-fn try_tree(
-    heap: Global,
-    random: &mut Random,
-    tree: &Tree,
-    machine: SlotTable<'_>,
-    truth: &Truth,
-    verdicts: &mut Verdicts,
-) -> Result<(), Fault> {
-    for _ in 0..8 {
-        let marking = draw_marking(random, tree);
-        let listing = tree.listing(heap, marking)?;
-        let answer = verdict(machine, listing.as_slice())?;
-        let expected = truth.get(marking as usize).copied().unwrap_or(!answer);
-        verdicts.count(expected, answer);
-    }
-    Ok(())
-}
-
-// One tree under each rule.
-fn try_rules(
-    heap: Global,
-    random: &mut Random,
-    shape: Shape,
-    formulas: &Vec<Formula>,
-    images: &Vec<Image>,
-    verdicts: &mut Verdicts,
-) -> Result<(), Fault> {
-    let most_leaves = if shape.tracks < 3 { 4 } else { 3 };
-    let leaves = usize::from(random.byte(most_leaves)).saturating_add(1);
-    let tree = draw_tree(heap, random, shape, leaves)?;
-    let truths = truths(heap, &tree, formulas)?;
-    for (at, truth) in truths.iter().enumerate() {
-        if let Some(machine) = table(shape, images, at) {
-            try_tree(heap, random, &tree, machine, truth, verdicts)?;
+impl Trial<'_> {
+    // Half of the markings have few marks, so that sets of one node come up.
+    fn draw_marking(&mut self, tree: &Tree) -> u64 {
+        let marking = self.random.below(tree.markings().end);
+        if self.random.coin() {
+            marking & self.random.next() & self.random.next()
+        } else {
+            marking
         }
     }
-    Ok(())
-}
 
-// Some rules over one another, and some trees under each of them.
-fn try_batch(
-    heap: Global,
-    random: &mut Random,
-    trees: u64,
-    verdicts: &mut Verdicts,
-) -> Result<(), Fault> {
-    let shape = Shape {
-        leaves: 2,
-        inners: 1,
-        tracks: if random.coin() { 2 } else { 3 },
-    };
-    let formulas = draw_formulas(heap, random, shape)?;
-    let images = images_of(heap, shape, &formulas)?;
-    for image in images.iter() {
-        verdicts.count_image(image);
+    // Judges some markings of a tree by a rule's table.
+    fn try_tree(&mut self, tree: &Tree, image: &Image, truth: &Truth) -> Result<(), Fault> {
+        for _ in 0..8 {
+            let marking = self.draw_marking(tree);
+            let listing = tree.listing(self.alloc, marking)?;
+            let mut stack = [0u8; 8];
+            let answer = judge(&image.table(), listing.as_slice(), &mut stack)?;
+            self.verdicts.count(truth.get(marking), answer);
+        }
+        Ok(())
     }
-    for _ in 0..trees {
-        try_rules(heap, random, shape, &formulas, &images, verdicts)?;
+
+    // One tree under each rule.
+    fn try_rules(&mut self, shape: Shape, rules: &Vec<Rule>) -> Result<(), Fault> {
+        let most_leaves = if shape.tracks < 3 { 4 } else { 3 };
+        let leaves = self.random.byte_below(most_leaves).saturating_add(1);
+        let tree = draw_tree(self.alloc, self.random, shape, leaves)?;
+        let mut truths = Vec::new(self.alloc);
+        for rule in rules {
+            let truth = rule.formula.truth(self.alloc, &tree, &truths)?;
+            if let Some(image) = &rule.image {
+                self.try_tree(&tree, image, &truth)?;
+            }
+            truths.push(truth)?;
+        }
+        Ok(())
     }
-    Ok(())
+
+    // Some rules over one another, and some trees under each of them.
+    fn try_batch(&mut self, trees: u64) -> Result<(), Fault> {
+        let shape = Shape {
+            leaves: 2,
+            inners: 1,
+            tracks: if self.random.coin() { 2 } else { 3 },
+        };
+        let formulas = draw_formulas(self.alloc, self.random, shape)?;
+        let rules = rules_of(self.alloc, shape, &formulas)?;
+        for rule in &rules {
+            self.verdicts.count_rule(rule);
+        }
+        for _ in 0..trees {
+            self.try_rules(shape, &rules)?;
+        }
+        Ok(())
+    }
 }
 
 // Judges random trees by the tables of random rules, and compares the verdicts with set logic.
 pub fn try_verdicts(
-    heap: Global,
+    alloc: Global,
     random: &mut Random,
     batches: u64,
     trees: u64,
 ) -> Result<Verdicts, Fault> {
-    let mut verdicts = Verdicts {
-        rules: 0,
-        unbuilt: 0,
-        states: 0,
-        most_states: 0,
-        yes: 0,
-        no: 0,
-        mismatches: 0,
+    let mut trial = Trial {
+        alloc,
+        random,
+        verdicts: Verdicts::default(),
     };
     for _ in 0..batches {
-        try_batch(heap, random, trees, &mut verdicts)?;
+        trial.try_batch(trees)?;
     }
-    Ok(verdicts)
+    Ok(trial.verdicts)
 }

@@ -1,0 +1,60 @@
+// The build under test.
+use build::{Build, build_cleared};
+use machine::Machine;
+use machines::SlotTable;
+use slots::Layout;
+use std::alloc::{AllocError, Global};
+
+#[derive(Clone, Copy, Debug)]
+pub enum Unbuilt {
+    TooMany,
+    Unserved,
+}
+
+// A table's bytes, and where each stands.
+#[derive(Drop)]
+pub struct Image {
+    pub layout: Layout,
+    pub cells: Vec<u8>,
+}
+
+impl Image {
+    pub fn table(&self) -> SlotTable<'_> {
+        SlotTable {
+            bytes: self.cells.as_slice(),
+            shape: self.layout.shape,
+            most: self.layout.most,
+        }
+    }
+
+    pub fn states(&self) -> u8 {
+        self.cells.first().copied().unwrap_or(0)
+    }
+}
+
+fn build_in<M: Machine>(machine: &M, most: usize, cells: &mut [u8]) -> Result<u8, Unbuilt> {
+    let mut codes = [0u64; Layout::MOST_STATES];
+    let mut classes = [0u8; 2 * Layout::MOST_STATES];
+    match build_cleared(machine, most, &mut codes, cells, &mut classes) {
+        Build::Built(states) => Ok(states),
+        Build::TooMany => Err(Unbuilt::TooMany),
+        Build::Unserved => Err(Unbuilt::Unserved),
+    }
+}
+
+// The image of the machine's table, in as many cells as it has.
+pub fn build<M: Machine>(
+    alloc: Global,
+    machine: &M,
+    most: usize,
+) -> Result<Result<Image, Unbuilt>, AllocError> {
+    let layout = Layout {
+        shape: machine.shape(),
+        most,
+    };
+    if !layout.fits() {
+        return Ok(Err(Unbuilt::Unserved));
+    }
+    let mut cells = vec![in alloc; 0u8; layout.width()]?;
+    Ok(build_in(machine, most, cells.as_mut_slice()).map(|_| Image { layout, cells }))
+}
