@@ -1,4 +1,5 @@
 // The build of a table, and its image.
+// No library takes memory from a heap, so each program has an image of its own.
 use build::{Build, build_cleared};
 use machine::Machine;
 use machines::SlotTable;

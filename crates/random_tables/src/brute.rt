@@ -3,9 +3,10 @@
 use crate::bit_set::BitSet;
 use machine::Machine;
 use std::alloc::{AllocError, Global};
+use std::iter;
 use trees::Shape;
 
-const CODES: u64 = 16;
+const CODES: usize = 16;
 
 #[derive(Clone, Copy)]
 struct Row {
@@ -22,7 +23,7 @@ fn rows(alloc: Global, first: u8, labels: u8, tracks: u8) -> Result<Vec<Row>, Al
 }
 
 // What the step leaves once it changes nothing more, or after so many rounds.
-fn settled<T: Copy + PartialEq, F: Fn(T) -> T>(rounds: u64, start: T, step: F) -> T
+fn settled<T: Copy + PartialEq, F: Fn(T) -> T>(rounds: usize, start: T, step: F) -> T
     requires { F.IsAlwaysCallable step }
 {
     let mut now = start;
@@ -125,7 +126,7 @@ impl<'m, M: Machine> Steps<'m, M> {
 
     fn told_apart(&self, known: BitSet) -> Told {
         let none = Told {
-            rows: [BitSet::EMPTY; 16],
+            rows: [BitSet::EMPTY; CODES],
         };
         settled(CODES * CODES, none, |told| self.told_once(known, told))
     }
@@ -134,16 +135,16 @@ impl<'m, M: Machine> Steps<'m, M> {
 // Of each code, those that are told apart from it.
 #[derive(Clone, Copy, PartialEq)]
 struct Told {
-    rows: [BitSet; 16],
+    rows: [BitSet; CODES],
 }
 
 impl Told {
     fn has(&self, x: u64, y: u64) -> bool {
-        self.rows[(x % CODES) as usize].has(y)
+        self.rows[x as usize % CODES].has(y)
     }
 
     fn put(&mut self, x: u64, others: BitSet) {
-        self.rows[(x % CODES) as usize] |= others;
+        self.rows[x as usize % CODES] |= others;
     }
 }
 
@@ -193,19 +194,18 @@ impl<M: Machine> Classes<'_, '_, M> {
             return Ok(());
         };
         let earlier: Vec<u64> = self.firsts.iter().copied().take(m).collect(alloc)?;
-        for first in &earlier {
-            self.meet_pair(*first, later)?;
-        }
-        self.meet_pair(later, later)?;
-        for first in &earlier {
-            self.meet_pair(later, *first)?;
+        let at_right = earlier.iter().map(|first| (*first, later));
+        let at_left = earlier.iter().map(|first| (later, *first));
+        let pairs = at_right.chain(iter::once((later, later))).chain(at_left);
+        for (left, right) in pairs {
+            self.meet_pair(left, right)?;
         }
         Ok(())
     }
 
     fn meet_all(&mut self, alloc: Global) -> Result<(), AllocError> {
         self.meet_leaves()?;
-        for m in 0..16 {
+        for m in 0..CODES {
             self.meet_ring(alloc, m)?;
         }
         Ok(())

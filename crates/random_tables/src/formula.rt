@@ -17,8 +17,8 @@ pub enum Formula {
 }
 
 // A track, mostly another one.
-fn draw_other(random: &mut Random, shape: Shape, i: u8) -> u8 {
-    let j = random.byte_below(shape.tracks);
+fn draw_other(random: &mut Random, shape: Shape, i: usize) -> usize {
+    let j = random.index_below(shape.tracks);
     if i == j && random.below(8) > 0 {
         if i == 0 { 1 } else { i - 1 }
     } else {
@@ -27,12 +27,11 @@ fn draw_other(random: &mut Random, shape: Shape, i: u8) -> u8 {
 }
 
 fn draw_atom(random: &mut Random, shape: Shape) -> Atom {
-    let i = random.byte_below(shape.tracks);
-    let j = usize::from(draw_other(random, shape, i));
-    let i = usize::from(i);
+    let i = random.index_below(shape.tracks);
+    let j = draw_other(random, shape, i);
     match random.below(6) {
         0 => Atom::Sub(i, j),
-        1 => Atom::Lab(i, usize::from(random.byte_below(3))),
+        1 => Atom::Lab(i, random.index_below(3)),
         2 => Atom::Sing(i),
         3 => Atom::Left(i, j),
         4 => Atom::Right(i, j),
@@ -43,13 +42,13 @@ fn draw_atom(random: &mut Random, shape: Shape) -> Atom {
 // A formula over two of the first `earlier`.
 fn draw_layer(random: &mut Random, shape: Shape, earlier: u8) -> Formula {
     // rather a late one
-    let p = usize::from(random.byte_below(earlier).max(random.byte_below(earlier)));
-    let q = usize::from(random.byte_below(earlier));
+    let p = random.index_below(earlier).max(random.index_below(earlier));
+    let q = random.index_below(earlier);
     match random.below(7) {
         0 => Formula::Not(p),
         1 | 2 => Formula::Both(p, q),
         3 | 4 => Formula::Either(p, q),
-        _ => Formula::Exists(usize::from(random.byte_below(shape.tracks)), p),
+        _ => Formula::Exists(random.index_below(shape.tracks), p),
     }
 }
 
@@ -110,28 +109,22 @@ impl Truth {
     }
 }
 
-fn holds(truths: &Vec<Truth>, p: usize, marking: u64) -> bool {
-    truths
-        .get(p)
-        .and_then(|truth| truth.get(marking))
-        .unwrap_or(false)
-}
-
-// Whether some set of nodes, put in the track, makes the formula hold.
-fn some_truth(
+// Whether some set of nodes, put in the track, makes a formula hold that holds of these markings.
+fn some_truth<F: Fn(u64) -> bool>(
     alloc: Global,
     tree: &Tree,
-    earlier: &Vec<Truth>,
     track: usize,
-    p: usize,
-) -> Result<Truth, AllocError> {
+    holds: F,
+) -> Result<Truth, AllocError>
+    requires { F.IsAlwaysCallable holds }
+{
     let whole = tree.whole(track);
-    // what was in the track makes no difference, so the sets are tried where it has no node
+    // what is in the track makes no difference, so the sets are tried only where it has no node
     let unmarked = Truth::new(alloc, tree, |marking| {
         marking & whole == 0
             && tree
                 .sets()
-                .any(|set| holds(earlier, p, marking | tree.marked(set, track)))
+                .any(|set| holds(marking | tree.marked(set, track)))
     })?;
     Truth::new(alloc, tree, |marking| {
         unmarked.get(marking & !whole).unwrap_or(false)
@@ -146,24 +139,16 @@ impl Formula {
         tree: &Tree,
         earlier: &Vec<Truth>,
     ) -> Result<Truth, AllocError> {
+        let holds = |p: usize, m: u64| {
+            let truth = earlier.get(p).and_then(|truth| truth.get(m));
+            truth.unwrap_or(false)
+        };
         match self {
             Formula::Atom(atom) => Truth::new(alloc, tree, |m| atom_holds(tree, atom, m)),
-            Formula::Not(p) => Truth::new(alloc, tree, |m| !holds(earlier, p, m)),
-            Formula::Both(p, q) => {
-                Truth::new(
-                    alloc,
-                    tree,
-                    |m| holds(earlier, p, m) && holds(earlier, q, m),
-                )
-            }
-            Formula::Either(p, q) => {
-                Truth::new(
-                    alloc,
-                    tree,
-                    |m| holds(earlier, p, m) || holds(earlier, q, m),
-                )
-            }
-            Formula::Exists(track, p) => some_truth(alloc, tree, earlier, track, p),
+            Formula::Not(p) => Truth::new(alloc, tree, |m| !holds(p, m)),
+            Formula::Both(p, q) => Truth::new(alloc, tree, |m| holds(p, m) && holds(q, m)),
+            Formula::Either(p, q) => Truth::new(alloc, tree, |m| holds(p, m) || holds(q, m)),
+            Formula::Exists(track, p) => some_truth(alloc, tree, track, |m| holds(p, m)),
         }
     }
 }

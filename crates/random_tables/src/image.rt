@@ -1,4 +1,5 @@
 // The build under test.
+// No library takes memory from a heap, so each program has an image of its own.
 use build::{Build, build_cleared};
 use machine::Machine;
 use machines::SlotTable;
@@ -42,7 +43,7 @@ fn build_in<M: Machine>(machine: &M, most: usize, cells: &mut [u8]) -> Result<u8
     }
 }
 
-// The image of the machine's table, in as many cells as it has.
+// The image of the machine's table, in as many cells as the library says; the image by brute force has as many as it comes to.
 pub fn build<M: Machine>(
     alloc: Global,
     machine: &M,

@@ -35,6 +35,10 @@ impl Random {
         self.below(u64::from(limit)) as u8
     }
 
+    pub fn index_below(&mut self, limit: u8) -> usize {
+        usize::from(self.byte_below(limit))
+    }
+
     pub fn byte(&mut self) -> u8 {
         (self.next() % 256) as u8
     }

@@ -33,28 +33,30 @@ impl Part {
     }
 }
 
-fn inner_node(label: u8, left: Part, right: Part) -> Node {
-    Node {
-        label,
-        left: left.root,
-        right: right.root,
-        below: left.all | right.all,
+impl Node {
+    fn leaf(label: u8) -> Node {
+        Node {
+            label,
+            left: BitSet::EMPTY,
+            right: BitSet::EMPTY,
+            below: BitSet::EMPTY,
+        }
     }
-}
 
-fn leaf_node(label: u8) -> Node {
-    Node {
-        label,
-        left: BitSet::EMPTY,
-        right: BitSet::EMPTY,
-        below: BitSet::EMPTY,
+    fn inner(label: u8, left: Part, right: Part) -> Node {
+        Node {
+            label,
+            left: left.root,
+            right: right.root,
+            below: left.all | right.all,
+        }
     }
 }
 
 #[derive(Drop)]
 pub struct Tree {
-    pub nodes: Vec<Node>,
-    pub tracks: u8,
+    nodes: Vec<Node>,
+    tracks: u8,
 }
 
 pub fn draw_tree(
@@ -67,14 +69,20 @@ pub fn draw_tree(
     let mut open: Vec<Part> = Vec::new(alloc);
     let mut to_come = leaves;
     for place in 0..(2 * u64::from(leaves)).saturating_sub(1) {
-        let node = if to_come > 0 && (open.len() < 2 || random.coin()) {
-            to_come -= 1;
-            leaf_node(random.byte_below(shape.leaves))
-        } else if let (Some(right), Some(left)) = (open.pop(), open.pop()) {
-            let nth = random.byte_below(shape.inners);
-            inner_node(shape.leaves.saturating_add(nth), left, right)
+        let parts = if open.len() < 2 || (to_come > 0 && random.coin()) {
+            None
         } else {
-            break;
+            open.pop().zip(open.pop())
+        };
+        let node = match parts {
+            Some((right, left)) => {
+                let nth = random.byte_below(shape.inners);
+                Node::inner(shape.leaves.saturating_add(nth), left, right)
+            }
+            None => {
+                to_come = to_come.saturating_sub(1);
+                Node::leaf(random.byte_below(shape.leaves))
+            }
         };
         nodes.push(node)?;
         open.push(Part::new(place, node))?;

@@ -77,15 +77,6 @@ fn rule_of(
     Ok(Rule { formula, image })
 }
 
-fn rules_of(alloc: Global, shape: Shape, formulas: &Vec<Formula>) -> Result<Vec<Rule>, Fault> {
-    let mut rules = Vec::new(alloc);
-    for formula in formulas {
-        let rule = rule_of(alloc, shape, *formula, &rules)?;
-        rules.push(rule)?;
-    }
-    Ok(rules)
-}
-
 #[derive(Clone, Copy, Default)]
 pub struct Verdicts {
     pub rules: u64,
@@ -168,6 +159,16 @@ impl Trial<'_> {
         Ok(())
     }
 
+    fn draw_rules(&mut self, shape: Shape) -> Result<Vec<Rule>, Fault> {
+        let mut rules = Vec::new(self.alloc);
+        for formula in draw_formulas(self.alloc, self.random, shape)? {
+            let rule = rule_of(self.alloc, shape, formula, &rules)?;
+            self.verdicts.count_rule(&rule);
+            rules.push(rule)?;
+        }
+        Ok(rules)
+    }
+
     // Some rules over one another, and some trees under each of them.
     fn try_batch(&mut self, trees: u64) -> Result<(), Fault> {
         let shape = Shape {
@@ -175,11 +176,7 @@ impl Trial<'_> {
             inners: 1,
             tracks: if self.random.coin() { 2 } else { 3 },
         };
-        let formulas = draw_formulas(self.alloc, self.random, shape)?;
-        let rules = rules_of(self.alloc, shape, &formulas)?;
-        for rule in &rules {
-            self.verdicts.count_rule(rule);
-        }
+        let rules = self.draw_rules(shape)?;
         for _ in 0..trees {
             self.try_rules(shape, &rules)?;
         }
