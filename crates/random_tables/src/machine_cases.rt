@@ -4,7 +4,7 @@ use crate::image::{Image, Unbuilt, build};
 use crate::random::Random;
 use slots::Layout;
 use std::alloc::{AllocError, Global};
-use std::num::NonZeroU8;
+use std::num::{NonZeroU8, Saturating};
 use trees::Shape;
 
 // The most states of a machine.
@@ -118,32 +118,31 @@ impl Draft<'_> {
 
 #[derive(Clone, Copy, Default)]
 pub struct Tally {
-    pub cases: u64,
-    pub too_many: u64,
+    pub cases: Saturating<u64>,
+    pub too_many: Saturating<u64>,
     // tables of fewer states than the machine has codes
-    pub merged: u64,
-    pub mismatches: u64,
+    pub merged: Saturating<u64>,
+    pub mismatches: Saturating<u64>,
     // how many tables have so many states
-    pub states: [u64; 13],
+    pub states: [Saturating<u64>; 13],
 }
 
 impl Tally {
     fn count_states(&mut self, states: u8, codes: u32) {
-        let tables = &mut self.states[usize::from(states % 13)];
-        *tables = tables.saturating_add(1);
+        self.states[usize::from(states % 13)] += 1;
         if u32::from(states) < codes {
-            self.merged = self.merged.saturating_add(1);
+            self.merged += 1;
         }
     }
 
     fn count(&mut self, built: &Result<Image, Unbuilt>, expected: &Option<Brute>) {
-        self.cases = self.cases.saturating_add(1);
+        self.cases += 1;
         match (built, expected) {
             (Ok(image), Some(brute)) if image.cells == brute.image => {
                 self.count_states(image.states(), brute.codes);
             }
-            (Err(Unbuilt::TooMany), None) => self.too_many = self.too_many.saturating_add(1),
-            _ => self.mismatches = self.mismatches.saturating_add(1),
+            (Err(Unbuilt::TooMany), None) => self.too_many += 1,
+            _ => self.mismatches += 1,
         }
     }
 

@@ -10,6 +10,7 @@ use machine::Machine;
 use machines::{SlotTable, judge};
 use slots::Layout;
 use std::alloc::Global;
+use std::num::Saturating;
 use trees::Shape;
 
 // A formula, and the image of its table, or none where it or one below it has too many states.
@@ -79,35 +80,35 @@ fn rule_of(
 
 #[derive(Clone, Copy, Default)]
 pub struct Verdicts {
-    pub rules: u64,
-    pub unbuilt: u64,
-    pub states: u64,
+    pub rules: Saturating<u64>,
+    pub unbuilt: Saturating<u64>,
+    pub states: Saturating<u64>,
     pub most_states: u8,
-    pub yes: u64,
-    pub no: u64,
-    pub mismatches: u64,
+    pub yes: Saturating<u64>,
+    pub no: Saturating<u64>,
+    pub mismatches: Saturating<u64>,
 }
 
 impl Verdicts {
     fn count(&mut self, expected: Option<bool>, answer: bool) {
         if expected != Some(answer) {
-            self.mismatches = self.mismatches.saturating_add(1);
+            self.mismatches += 1;
         } else if answer {
-            self.yes = self.yes.saturating_add(1);
+            self.yes += 1;
         } else {
-            self.no = self.no.saturating_add(1);
+            self.no += 1;
         }
     }
 
     fn count_rule(&mut self, rule: &Rule) {
-        self.rules = self.rules.saturating_add(1);
+        self.rules += 1;
         match &rule.image {
             Some(image) => {
                 let states = image.states();
-                self.states = self.states.saturating_add(u64::from(states));
+                self.states += u64::from(states);
                 self.most_states = self.most_states.max(states);
             }
-            None => self.unbuilt = self.unbuilt.saturating_add(1),
+            None => self.unbuilt += 1,
         }
     }
 }
