@@ -203,6 +203,7 @@ impl<M: Machine> Classes<'_, '_, M> {
         Ok(())
     }
 
+    // A ring may lengthen the list that the rings go over, so they are counted.
     fn meet_all(&mut self, alloc: Global) -> Result<(), AllocError> {
         self.meet_leaves()?;
         for m in 0..CODES {

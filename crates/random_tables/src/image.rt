@@ -43,7 +43,7 @@ fn build_in<M: Machine>(machine: &M, most: usize, cells: &mut [u8]) -> Result<u8
     }
 }
 
-// The image of the machine's table, in as many cells as the library says; the image by brute force has as many as it comes to.
+// The image of the machine's table, in as many cells as the library says. That by brute force has as many as it comes to.
 pub fn build<M: Machine>(
     alloc: Global,
     machine: &M,
@@ -53,9 +53,7 @@ pub fn build<M: Machine>(
         shape: machine.shape(),
         most,
     };
-    if !layout.fits() {
-        return Ok(Err(Unbuilt::Unserved));
-    }
-    let mut cells = vec![in alloc; 0u8; layout.width()]?;
+    let width = if layout.fits() { layout.width() } else { 0 };
+    let mut cells = vec![in alloc; 0u8; width]?;
     Ok(build_in(machine, most, cells.as_mut_slice()).map(|_| Image { layout, cells }))
 }

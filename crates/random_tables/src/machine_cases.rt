@@ -10,7 +10,8 @@ use trees::Shape;
 // The most states of a machine.
 const ROOM: u8 = 12;
 
-// How cells are drawn: any state; any byte; or so that the machine has codes alike, with this many classes of them.
+// How cells are drawn, which each machine draws for itself: any state; any byte; or so that the machine has codes alike,
+// with this many classes of them.
 #[derive(Clone, Copy)]
 enum Drawing {
     States,

@@ -20,62 +20,68 @@ struct Rule {
     image: Option<Image>,
 }
 
-fn built<M: Machine>(alloc: Global, machine: &M) -> Result<Image, Fault> {
-    Ok(build(alloc, machine, Layout::MOST_STATES)??)
-}
-
-fn table(earlier: &Vec<Rule>, p: usize) -> Result<SlotTable<'_>, Unbuilt> {
-    match earlier.get(p) {
-        Some(
-            Rule {
-                image: Some(image),
-                ..
-            },
-        ) => Ok(image.table()),
-        _ => Err(Unbuilt::TooMany),
-    }
-}
-
-fn atom_image(alloc: Global, shape: Shape, atom: Atom) -> Result<Image, Fault> {
-    match atom {
-        Atom::Sub(i, j) => built(alloc, &Sub::new(shape, i, j)?),
-        Atom::Lab(i, label) => built(alloc, &Lab::new(shape, i, label)?),
-        Atom::Sing(i) => built(alloc, &Sing::new(shape, i)?),
-        Atom::Left(i, j) => built(alloc, &Left::new(shape, i, j)?),
-        Atom::Right(i, j) => built(alloc, &Right::new(shape, i, j)?),
-        Atom::Below(i, j) => built(alloc, &Below::new(shape, i, j)?),
-    }
-}
-
-fn image_of(
+// Rules of a shape, each over those before it.
+#[derive(Drop)]
+struct Rules {
     alloc: Global,
     shape: Shape,
-    formula: Formula,
-    earlier: &Vec<Rule>,
-) -> Result<Image, Fault> {
-    match formula {
-        Formula::Atom(atom) => atom_image(alloc, shape, atom),
-        Formula::Not(p) => built(alloc, &Not::new(table(earlier, p)?)),
-        Formula::Exists(track, p) => built(alloc, &Exists::new(table(earlier, p)?, track)?),
-        Formula::Both(p, q) => { built(alloc, &Both::new(table(earlier, p)?, table(earlier, q)?)?) }
-        Formula::Either(p, q) => {
-            built(alloc, &Either::new(table(earlier, p)?, table(earlier, q)?)?)
+    rules: Vec<Rule>,
+}
+
+impl Rules {
+    fn table(&self, p: usize) -> Result<SlotTable<'_>, Unbuilt> {
+        match self.rules.get(p).and_then(|rule| rule.image.as_ref()) {
+            Some(image) => Ok(image.table()),
+            None => Err(Unbuilt::TooMany),
         }
     }
+
+    fn build<M: Machine>(&self, machine: &M) -> Result<Image, Fault> {
+        Ok(build(self.alloc, machine, Layout::MOST_STATES)??)
+    }
+
+    fn build_atom(&self, atom: Atom) -> Result<Image, Fault> {
+        match atom {
+            Atom::Sub(i, j) => self.build(&Sub::new(self.shape, i, j)?),
+            Atom::Lab(i, label) => self.build(&Lab::new(self.shape, i, label)?),
+            Atom::Sing(i) => self.build(&Sing::new(self.shape, i)?),
+            Atom::Left(i, j) => self.build(&Left::new(self.shape, i, j)?),
+            Atom::Right(i, j) => self.build(&Right::new(self.shape, i, j)?),
+            Atom::Below(i, j) => self.build(&Below::new(self.shape, i, j)?),
+        }
+    }
+
+    fn build_formula(&self, formula: Formula) -> Result<Image, Fault> {
+        match formula {
+            Formula::Atom(atom) => self.build_atom(atom),
+            Formula::Not(p) => self.build(&Not::new(self.table(p)?)),
+            Formula::Exists(track, p) => self.build(&Exists::new(self.table(p)?, track)?),
+            Formula::Both(p, q) => self.build(&Both::new(self.table(p)?, self.table(q)?)?),
+            Formula::Either(p, q) => self.build(&Either::new(self.table(p)?, self.table(q)?)?),
+        }
+    }
+
+    fn add(&mut self, formula: Formula) -> Result<(), Fault> {
+        let image = match self.build_formula(formula) {
+            Ok(image) => Some(image),
+            Err(Fault::Unbuilt(Unbuilt::TooMany)) => None,
+            Err(fault) => return Err(fault),
+        };
+        self.rules.push(Rule { formula, image })?;
+        Ok(())
+    }
 }
 
-fn rule_of(
-    alloc: Global,
-    shape: Shape,
-    formula: Formula,
-    earlier: &Vec<Rule>,
-) -> Result<Rule, Fault> {
-    let image = match image_of(alloc, shape, formula, earlier) {
-        Ok(image) => Some(image),
-        Err(Fault::Unbuilt(Unbuilt::TooMany)) => None,
-        Err(fault) => return Err(fault),
+fn draw_rules(alloc: Global, random: &mut Random, shape: Shape) -> Result<Rules, Fault> {
+    let mut rules = Rules {
+        alloc,
+        shape,
+        rules: Vec::new(alloc),
     };
-    Ok(Rule { formula, image })
+    for formula in draw_formulas(alloc, random, shape)? {
+        rules.add(formula)?;
+    }
+    Ok(rules)
 }
 
 #[derive(Clone, Copy, Default)]
@@ -100,15 +106,16 @@ impl Verdicts {
         }
     }
 
-    fn count_rule(&mut self, rule: &Rule) {
-        self.rules += 1;
-        match &rule.image {
-            Some(image) => {
-                let states = image.states();
-                self.states += u64::from(states);
-                self.most_states = self.most_states.max(states);
+    fn count_rules(&mut self, rules: &Rules) {
+        for rule in &rules.rules {
+            self.rules += 1;
+            match &rule.image {
+                Some(image) => {
+                    self.states += u64::from(image.states());
+                    self.most_states = self.most_states.max(image.states());
+                }
+                None => self.unbuilt += 1,
             }
-            None => self.unbuilt += 1,
         }
     }
 }
@@ -145,12 +152,12 @@ impl Trial<'_> {
     }
 
     // One tree under each rule.
-    fn try_rules(&mut self, shape: Shape, rules: &Vec<Rule>) -> Result<(), Fault> {
-        let most_leaves = if shape.tracks < 3 { 4 } else { 3 };
+    fn try_rules(&mut self, rules: &Rules) -> Result<(), Fault> {
+        let most_leaves = if rules.shape.tracks < 3 { 4 } else { 3 };
         let leaves = self.random.byte_below(most_leaves).saturating_add(1);
-        let tree = draw_tree(self.alloc, self.random, shape, leaves)?;
+        let tree = draw_tree(self.alloc, self.random, rules.shape, leaves)?;
         let mut truths = Vec::new(self.alloc);
-        for rule in rules {
+        for rule in &rules.rules {
             let truth = rule.formula.truth(self.alloc, &tree, &truths)?;
             if let Some(image) = &rule.image {
                 self.try_tree(&tree, image, &truth)?;
@@ -160,16 +167,6 @@ impl Trial<'_> {
         Ok(())
     }
 
-    fn draw_rules(&mut self, shape: Shape) -> Result<Vec<Rule>, Fault> {
-        let mut rules = Vec::new(self.alloc);
-        for formula in draw_formulas(self.alloc, self.random, shape)? {
-            let rule = rule_of(self.alloc, shape, formula, &rules)?;
-            self.verdicts.count_rule(&rule);
-            rules.push(rule)?;
-        }
-        Ok(rules)
-    }
-
     // Some rules over one another, and some trees under each of them.
     fn try_batch(&mut self, trees: u64) -> Result<(), Fault> {
         let shape = Shape {
@@ -177,9 +174,10 @@ impl Trial<'_> {
             inners: 1,
             tracks: if self.random.coin() { 2 } else { 3 },
         };
-        let rules = self.draw_rules(shape)?;
+        let rules = draw_rules(self.alloc, self.random, shape)?;
+        self.verdicts.count_rules(&rules);
         for _ in 0..trees {
-            self.try_rules(shape, &rules)?;
+            self.try_rules(&rules)?;
         }
         Ok(())
     }
