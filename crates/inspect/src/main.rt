@@ -9,15 +9,14 @@
 // Bad text gets a line of its own, and the next line is read.
 #![tactic(auto)]
 
-mod outline;
 mod rules;
-mod text;
+mod words;
 
-use outline::draw;
+use console::{Command, draw, read_line};
 use rules::{Rule, check};
 use std::io;
-use text::{Command, read_line};
 use trees::{Origin, Shape};
+use words::NoWord;
 
 // Draws a tree, and says whether the rule holds of it. A listing that is refused is told once, by the drawing.
 fn show(
@@ -29,7 +28,7 @@ fn show(
 ) -> io::Result<()> {
     let heap = rt.alloc();
     let mut sizes = vec![in heap; 0u16; places]?;
-    draw(rt, shape, listing, sizes.as_mut_slice(), 0)?;
+    draw(rt, shape, listing, sizes.as_mut_slice())?;
     let Some(rule) = rule else {
         return Ok(());
     };
@@ -51,10 +50,8 @@ fn main(rt: HostRuntime) -> io::Result<()> {
     };
     let mut places = 64;
     let mut rule = None;
-    let mut at = 0usize;
-    for line in rt.lines(heap) {
-        at = at.saturating_add(1);
-        match read_line(heap, line?.as_str()) {
+    for (at, line) in (1u64..).zip(rt.lines(heap)) {
+        match read_line::<Rule, NoWord>(heap, line?.as_str()) {
             Ok(Command::Nothing) => {}
             Ok(Command::Shape(next)) => shape = next,
             Ok(Command::Stack(next)) => places = next,
@@ -63,6 +60,7 @@ fn main(rt: HostRuntime) -> io::Result<()> {
                 println!(rt; "line {at}:")?;
                 show(&rt, shape, places, rule, listing.as_slice())?;
             }
+            Ok(Command::Own(word)) => match word {},
             Err(fault) => println!(rt; "line {at}: {fault}")?,
         }
     }

@@ -2,7 +2,8 @@
 use rack::{Atom, Rack, Working};
 use slots::Layout;
 use std::alloc::{AllocError, Global};
-use trees::{Refusal, Shape};
+use store::refused;
+use trees::{Reason, Refusal, Shape};
 
 // The most codes that a table may come from.
 const MOST: usize = 32;
@@ -39,15 +40,17 @@ pub struct Bench {
     text: Vec<u8>,
 }
 
-fn width(shape: Shape) -> usize {
+// The bytes of a slot, or none where no table of the shape fits.
+fn width(shape: Shape) -> Option<usize> {
     let layout = Layout { shape, most: MOST };
-    if layout.fits() { layout.width() } else { 0 }
+    layout.fits().then(|| layout.width())
 }
 
 impl Bench {
     // The memory for trees of the shape. The bench is cleared before each rule.
     pub fn new(heap: Global, shape: Shape) -> Result<Bench, AllocError> {
-        let width = width(shape);
+        // a bench of no bytes refuses to be cleared
+        let width = width(shape).unwrap_or(0);
         let memory = Memory {
             codes: vec![in heap; 0u64; MOST]?,
             cells: vec![in heap; 0u8; width]?,
@@ -88,87 +91,81 @@ impl Bench {
         Ok(())
     }
 
-    // The first slot without a table. Where there is none, no slot: the rack then refuses to fill it.
-    fn free(&self) -> usize {
-        for slot in 0..SLOTS {
-            if rack::machine(self.rack, self.store.as_slice(), slot).is_err() {
-                return slot;
-            }
-        }
-        SLOTS
+    // The first slot without a table.
+    fn free(&self) -> Result<usize, Refusal> {
+        (0..SLOTS)
+            .find(|slot| rack::machine(self.rack, self.store.as_slice(), *slot).is_err())
+            .ok_or(refused(Reason::NoSuchSlot))
     }
 
-    fn empty(&mut self, slot: Slot) -> Result<(), Refusal> {
-        rack::drop(self.rack, self.store.as_mut_slice(), slot.0)
+    // Has a call put a table into a free slot, and empties the slots that it came from.
+    fn fill<F>(&mut self, sources: &[usize], call: F) -> Result<Slot, Refusal>
+    where
+        F: FnOnce(&mut Bench, usize) -> Result<(), Refusal>,
+        requires { F.IsAlwaysCallable call }
+    {
+        let to = self.free()?;
+        call(self, to)?;
+        for source in sources {
+            rack::drop(self.rack, self.store.as_mut_slice(), *source)?;
+        }
+        Ok(Slot(to))
     }
 
     pub fn atom(&mut self, atom: Atom) -> Result<Slot, Refusal> {
-        let result = self.free();
-        rack::atom(
-            self.rack,
-            self.store.as_mut_slice(),
-            result,
-            atom,
-            self.memory.lend(),
-        )?;
-        Ok(Slot(result))
+        self.fill(&[], |bench, to| {
+            let working = bench.memory.lend();
+            rack::atom(bench.rack, bench.store.as_mut_slice(), to, atom, working)
+        })
     }
 
-    pub fn not(&mut self, source: Slot) -> Result<Slot, Refusal> {
-        let result = self.free();
-        rack::not(
-            self.rack,
-            self.store.as_mut_slice(),
-            result,
-            source.0,
-            self.memory.lend(),
-        )?;
-        self.empty(source)?;
-        Ok(Slot(result))
+    pub fn not(&mut self, Slot(source): Slot) -> Result<Slot, Refusal> {
+        self.fill(&[source], |bench, to| {
+            let working = bench.memory.lend();
+            rack::not(bench.rack, bench.store.as_mut_slice(), to, source, working)
+        })
     }
 
-    pub fn both(&mut self, left: Slot, right: Slot) -> Result<Slot, Refusal> {
-        let result = self.free();
-        rack::both(
-            self.rack,
-            self.store.as_mut_slice(),
-            result,
-            left.0,
-            right.0,
-            self.memory.lend(),
-        )?;
-        self.empty(left)?;
-        self.empty(right)?;
-        Ok(Slot(result))
+    pub fn both(&mut self, Slot(left): Slot, Slot(right): Slot) -> Result<Slot, Refusal> {
+        self.fill(&[left, right], |bench, to| {
+            let working = bench.memory.lend();
+            rack::both(
+                bench.rack,
+                bench.store.as_mut_slice(),
+                to,
+                left,
+                right,
+                working,
+            )
+        })
     }
 
-    pub fn either(&mut self, left: Slot, right: Slot) -> Result<Slot, Refusal> {
-        let result = self.free();
-        rack::either(
-            self.rack,
-            self.store.as_mut_slice(),
-            result,
-            left.0,
-            right.0,
-            self.memory.lend(),
-        )?;
-        self.empty(left)?;
-        self.empty(right)?;
-        Ok(Slot(result))
+    pub fn either(&mut self, Slot(left): Slot, Slot(right): Slot) -> Result<Slot, Refusal> {
+        self.fill(&[left, right], |bench, to| {
+            let working = bench.memory.lend();
+            rack::either(
+                bench.rack,
+                bench.store.as_mut_slice(),
+                to,
+                left,
+                right,
+                working,
+            )
+        })
     }
 
-    pub fn some(&mut self, source: Slot, track: usize) -> Result<Slot, Refusal> {
-        let result = self.free();
-        rack::some(
-            self.rack,
-            self.store.as_mut_slice(),
-            result,
-            source.0,
-            track,
-            self.memory.lend(),
-        )?;
-        self.empty(source)?;
-        Ok(Slot(result))
+    pub fn some(&mut self, Slot(source): Slot, track: usize) -> Result<Slot, Refusal> {
+        self.fill(&[source], |bench, to| {
+            let working = bench.memory.lend();
+            rack::some(
+                bench.rack,
+                bench.store.as_mut_slice(),
+                to,
+                source,
+                track,
+                working,
+            )
+        })
     }
 
     // Whether the slot's rule holds of the tree.
@@ -184,6 +181,6 @@ impl Bench {
             slot.0,
             self.text.as_mut_slice(),
         )?;
-        Ok(self.text.as_slice().get(0..length).unwrap_or(&[]))
+        Ok(&self.text[..length])
     }
 }

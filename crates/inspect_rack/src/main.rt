@@ -11,22 +11,21 @@
 #![tactic(auto)]
 
 mod bench;
-mod outline;
 mod rules;
 mod session;
-mod text;
+mod words;
 
+use console::{Command, read_line};
+use rules::Rule;
 use session::Session;
 use std::io;
-use text::{Command, read_line};
+use words::Word;
 
 fn main(rt: HostRuntime) -> io::Result<()> {
     let heap = rt.alloc();
     let mut session = Session::new(heap)?;
-    let mut at = 0usize;
-    for line in rt.lines(heap) {
-        at = at.saturating_add(1);
-        match read_line(heap, line?.as_str()) {
+    for (at, line) in (1u64..).zip(rt.lines(heap)) {
+        match read_line::<Rule, Word>(heap, line?.as_str()) {
             Ok(Command::Nothing) => {}
             Ok(Command::Shape(shape)) => session.set_shape(heap, shape)?,
             Ok(Command::Stack(places)) => session.set_stack(heap, places)?,
@@ -35,7 +34,7 @@ fn main(rt: HostRuntime) -> io::Result<()> {
                 println!(rt; "line {at}:")?;
                 session.show(&rt, listing.as_slice())?;
             }
-            Ok(Command::List) => {
+            Ok(Command::Own(Word::List)) => {
                 println!(rt; "line {at}:")?;
                 session.list(&rt)?;
             }

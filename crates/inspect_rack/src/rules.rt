@@ -1,7 +1,9 @@
 // The rules by name, each put together on a bench from the rack's calls.
 use crate::bench::{Bench, Slot};
+use console::Fault;
 use rack::Atom;
 use std::fmt;
+use std::str::FromStr;
 use trees::Refusal;
 
 #[derive(Clone, Copy)]
@@ -16,6 +18,21 @@ pub enum Rule {
     Guarded,
     // every coil has a stop contact in its series
     Stopped,
+}
+
+impl FromStr for Rule {
+    type Err = Fault;
+
+    fn from_str(name: &str) -> Result<Rule, Fault> {
+        match name {
+            "one" => Ok(Rule::One),
+            "covered" => Ok(Rule::Covered),
+            "several" => Ok(Rule::Several),
+            "guarded" => Ok(Rule::Guarded),
+            "stopped" => Ok(Rule::Stopped),
+            _ => Err(Fault::NoRule("one, covered, several, guarded, stopped and none")),
+        }
+    }
 }
 
 // Why a rule cannot be made for a shape.

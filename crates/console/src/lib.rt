@@ -1,0 +1,11 @@
+// What the programs that inspect trees share: a line of input read as a command, and a tree drawn as an outline.
+#![tactic(auto)]
+
+mod command;
+mod fault;
+mod numbers;
+mod outline;
+
+pub use command::{Command, read_line};
+pub use fault::Fault;
+pub use outline::draw;
