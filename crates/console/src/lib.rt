@@ -5,7 +5,9 @@ mod command;
 mod fault;
 mod numbers;
 mod outline;
+mod rule;
 
 pub use command::{Command, read_line};
 pub use fault::Fault;
 pub use outline::draw;
+pub use rule::Rule;

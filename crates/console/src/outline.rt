@@ -13,8 +13,9 @@ struct Tracks {
 
 impl fmt::Display for Tracks {
     fn fmt<W: fmt::Write>(&self, f: &mut fmt::Formatter<W>) -> fmt::Result {
-        let marked = (0..self.shape.tracks.min(8)).filter(|track| self.marks >> *track & 1 == 1);
-        let mut marked = marked.peekable();
+        let mut marked = (0..self.shape.tracks.min(8))
+            .filter(|track| self.marks >> *track & 1 == 1)
+            .peekable();
         if marked.peek().is_none() {
             return f.write_str(" none");
         }

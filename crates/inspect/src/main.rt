@@ -12,53 +12,59 @@
 mod rules;
 mod words;
 
-use console::{Command, draw, read_line};
-use rules::{Rule, check};
+use console::{Command, Rule, draw, read_line};
+use rules::check;
 use std::io;
 use trees::{Origin, Shape};
 use words::NoWord;
 
-// Draws a tree, and says whether the rule holds of it. A listing that is refused is told once, by the drawing.
-fn show(
-    rt: &HostRuntime,
+// What the lines so far have set.
+#[derive(Clone, Copy)]
+struct Session {
     shape: Shape,
     places: usize,
     rule: Option<Rule>,
-    listing: &[u8],
-) -> io::Result<()> {
-    let heap = rt.alloc();
-    let mut sizes = vec![in heap; 0u16; places]?;
-    draw(rt, shape, listing, sizes.as_mut_slice())?;
-    let Some(rule) = rule else {
-        return Ok(());
-    };
-    let mut codes = vec![in heap; 0u64; places]?;
-    match check(rule, shape, listing, codes.as_mut_slice()) {
-        Ok(true) => println!(rt; "the rule holds"),
-        Ok(false) => println!(rt; "the rule does not hold"),
-        Err(refusal) if refusal.origin == Origin::Trees => Ok(()),
-        Err(refusal) => println!(rt; "no rule: {refusal}"),
+}
+
+impl Session {
+    // Draws a tree, and says whether the rule holds of it. A listing that is refused is told once, by the drawing.
+    fn show(&self, rt: &HostRuntime, listing: &[u8]) -> io::Result<()> {
+        let heap = rt.alloc();
+        let mut sizes = vec![in heap; 0u16; self.places]?;
+        draw(rt, self.shape, listing, sizes.as_mut_slice())?;
+        let Some(rule) = self.rule else {
+            return Ok(());
+        };
+        let mut codes = vec![in heap; 0u64; self.places]?;
+        match check(rule, self.shape, listing, codes.as_mut_slice()) {
+            Ok(true) => println!(rt; "the rule holds"),
+            Ok(false) => println!(rt; "the rule does not hold"),
+            Err(refusal) if refusal.origin == Origin::Trees => Ok(()),
+            Err(refusal) => println!(rt; "no rule: {refusal}"),
+        }
     }
 }
 
 fn main(rt: HostRuntime) -> io::Result<()> {
     let heap = rt.alloc();
-    let mut shape = Shape {
-        leaves: 2,
-        inners: 1,
-        tracks: 2,
+    let mut session = Session {
+        shape: Shape {
+            leaves: 2,
+            inners: 1,
+            tracks: 2,
+        },
+        places: 64,
+        rule: None,
     };
-    let mut places = 64;
-    let mut rule = None;
     for (at, line) in (1u64..).zip(rt.lines(heap)) {
         match read_line::<Rule, NoWord>(heap, line?.as_str()) {
             Ok(Command::Nothing) => {}
-            Ok(Command::Shape(next)) => shape = next,
-            Ok(Command::Stack(next)) => places = next,
-            Ok(Command::Rule(next)) => rule = next,
+            Ok(Command::Shape(shape)) => session.shape = shape,
+            Ok(Command::Stack(places)) => session.places = places,
+            Ok(Command::Rule(rule)) => session.rule = rule,
             Ok(Command::Tree(listing)) => {
                 println!(rt; "line {at}:")?;
-                show(&rt, shape, places, rule, listing.as_slice())?;
+                session.show(&rt, listing.as_slice())?;
             }
             Ok(Command::Own(word)) => match word {},
             Err(fault) => println!(rt; "line {at}: {fault}")?,

@@ -1,36 +1,9 @@
-// A few rules, each built from atoms and layers.
+// The rules, each built from atoms and layers.
 use atoms::{Lab, Left, Sing, Sub};
-use console::Fault;
+use console::Rule;
 use layers::{Both, Either, Exists, Not};
 use machines::judge;
-use std::str::FromStr;
 use trees::{Refusal, Shape};
-
-#[derive(Clone, Copy)]
-pub enum Rule {
-    // track 0 has exactly one node
-    One,
-    // every node of track 0 is in track 1, or track 0 has exactly one node
-    Covered,
-    // some node but not exactly one is in track 0
-    Several,
-    // the one node of track 0 has a left child with label 0
-    Guarded,
-}
-
-impl FromStr for Rule {
-    type Err = Fault;
-
-    fn from_str(name: &str) -> Result<Rule, Fault> {
-        match name {
-            "one" => Ok(Rule::One),
-            "covered" => Ok(Rule::Covered),
-            "several" => Ok(Rule::Several),
-            "guarded" => Ok(Rule::Guarded),
-            _ => Err(Fault::NoRule("one, covered, several, guarded and none")),
-        }
-    }
-}
 
 // Whether the rule holds of the tree whose listing this is.
 pub fn check(rule: Rule, shape: Shape, listing: &[u8], stack: &mut [u64]) -> Result<bool, Refusal> {

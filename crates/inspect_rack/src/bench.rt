@@ -16,27 +16,14 @@ const SLOTS: usize = 4;
 pub struct Slot(usize);
 
 #[derive(Drop)]
-struct Memory {
-    codes: Vec<u64>,
-    cells: Vec<u8>,
-    classes: Vec<u8>,
-}
-
-impl Memory {
-    fn lend(&mut self) -> Working<'_> {
-        Working {
-            codes: self.codes.as_mut_slice(),
-            cells: self.cells.as_mut_slice(),
-            classes: self.classes.as_mut_slice(),
-        }
-    }
-}
-
-#[derive(Drop)]
 pub struct Bench {
     rack: Rack,
     store: Vec<u8>,
-    memory: Memory,
+    // working memory of the calls
+    codes: Vec<u64>,
+    cells: Vec<u8>,
+    classes: Vec<u8>,
+    // room for a listing
     text: Vec<u8>,
 }
 
@@ -51,11 +38,6 @@ impl Bench {
     pub fn new(heap: Global, shape: Shape) -> Result<Bench, AllocError> {
         // a bench of no bytes refuses to be cleared
         let width = width(shape).unwrap_or(0);
-        let memory = Memory {
-            codes: vec![in heap; 0u64; MOST]?,
-            cells: vec![in heap; 0u8; width]?,
-            classes: vec![in heap; 0u8; 2 * MOST]?,
-        };
         Ok(Bench {
             rack: Rack {
                 shape,
@@ -63,7 +45,9 @@ impl Bench {
                 slots: SLOTS,
             },
             store: vec![in heap; 0u8; width.saturating_mul(SLOTS)]?,
-            memory,
+            codes: vec![in heap; 0u64; MOST]?,
+            cells: vec![in heap; 0u8; width]?,
+            classes: vec![in heap; 0u8; 2 * MOST]?,
             // a listing has no more than four bytes for each byte of a slot
             text: vec![in heap; 0u8; width.saturating_mul(4)]?,
         })
@@ -91,6 +75,17 @@ impl Bench {
         Ok(())
     }
 
+    // The rack with its store and working memory, for one call.
+    fn lend(&mut self) -> (Rack, &mut [u8], Working<'_>) {
+        let rack = self.rack;
+        let working = Working {
+            codes: self.codes.as_mut_slice(),
+            cells: self.cells.as_mut_slice(),
+            classes: self.classes.as_mut_slice(),
+        };
+        (rack, self.store.as_mut_slice(), working)
+    }
+
     // The first slot without a table.
     fn free(&self) -> Result<usize, Refusal> {
         (0..SLOTS)
@@ -114,57 +109,36 @@ impl Bench {
 
     pub fn atom(&mut self, atom: Atom) -> Result<Slot, Refusal> {
         self.fill(&[], |bench, to| {
-            let working = bench.memory.lend();
-            rack::atom(bench.rack, bench.store.as_mut_slice(), to, atom, working)
+            let (rack, store, working) = bench.lend();
+            rack::atom(rack, store, to, atom, working)
         })
     }
 
     pub fn not(&mut self, Slot(source): Slot) -> Result<Slot, Refusal> {
         self.fill(&[source], |bench, to| {
-            let working = bench.memory.lend();
-            rack::not(bench.rack, bench.store.as_mut_slice(), to, source, working)
+            let (rack, store, working) = bench.lend();
+            rack::not(rack, store, to, source, working)
         })
     }
 
     pub fn both(&mut self, Slot(left): Slot, Slot(right): Slot) -> Result<Slot, Refusal> {
         self.fill(&[left, right], |bench, to| {
-            let working = bench.memory.lend();
-            rack::both(
-                bench.rack,
-                bench.store.as_mut_slice(),
-                to,
-                left,
-                right,
-                working,
-            )
+            let (rack, store, working) = bench.lend();
+            rack::both(rack, store, to, left, right, working)
         })
     }
 
     pub fn either(&mut self, Slot(left): Slot, Slot(right): Slot) -> Result<Slot, Refusal> {
         self.fill(&[left, right], |bench, to| {
-            let working = bench.memory.lend();
-            rack::either(
-                bench.rack,
-                bench.store.as_mut_slice(),
-                to,
-                left,
-                right,
-                working,
-            )
+            let (rack, store, working) = bench.lend();
+            rack::either(rack, store, to, left, right, working)
         })
     }
 
     pub fn some(&mut self, Slot(source): Slot, track: usize) -> Result<Slot, Refusal> {
         self.fill(&[source], |bench, to| {
-            let working = bench.memory.lend();
-            rack::some(
-                bench.rack,
-                bench.store.as_mut_slice(),
-                to,
-                source,
-                track,
-                working,
-            )
+            let (rack, store, working) = bench.lend();
+            rack::some(rack, store, to, source, track, working)
         })
     }
 

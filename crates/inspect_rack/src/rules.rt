@@ -8,14 +8,7 @@ use trees::Refusal;
 
 #[derive(Clone, Copy)]
 pub enum Rule {
-    // track 0 has exactly one node
-    One,
-    // every node of track 0 is in track 1, or track 0 has exactly one node
-    Covered,
-    // some node but not exactly one is in track 0
-    Several,
-    // the one node of track 0 has a left child with label 0
-    Guarded,
+    Shared(console::Rule),
     // every coil has a stop contact in its series
     Stopped,
 }
@@ -25,12 +18,10 @@ impl FromStr for Rule {
 
     fn from_str(name: &str) -> Result<Rule, Fault> {
         match name {
-            "one" => Ok(Rule::One),
-            "covered" => Ok(Rule::Covered),
-            "several" => Ok(Rule::Several),
-            "guarded" => Ok(Rule::Guarded),
             "stopped" => Ok(Rule::Stopped),
-            _ => Err(Fault::NoRule("one, covered, several, guarded, stopped and none")),
+            _ => name.parse().map(Rule::Shared).map_err(|_: Fault| Fault::NoRule(
+                "one, covered, several, guarded, stopped and none",
+            )),
         }
     }
 }
@@ -63,12 +54,18 @@ impl fmt::Display for Denial {
 pub fn make_rule(bench: &mut Bench, rule: Rule) -> Result<Slot, Denial> {
     bench.clear()?;
     match rule {
-        Rule::One => Ok(bench.atom(Atom::Sing(0))?),
-        Rule::Covered => Ok(covered(bench)?),
-        Rule::Several => Ok(several(bench)?),
-        Rule::Guarded => Ok(guarded(bench)?),
+        Rule::Shared(rule) => Ok(shared(bench, rule)?),
         Rule::Stopped if bench.shape().leaves != 2 => Err(Denial::NoLadder),
         Rule::Stopped => Ok(stopped(bench)?),
+    }
+}
+
+fn shared(bench: &mut Bench, rule: console::Rule) -> Result<Slot, Refusal> {
+    match rule {
+        console::Rule::One => bench.atom(Atom::Sing(0)),
+        console::Rule::Covered => covered(bench),
+        console::Rule::Several => several(bench),
+        console::Rule::Guarded => guarded(bench),
     }
 }
 
