@@ -1,4 +1,5 @@
-// What the programs that inspect trees share: a line of input read as a command, and a tree drawn as an outline.
+// What the programs that inspect trees share: a line of input read as a command, and a tree drawn as an outline. As programs
+// do, it uses the heap.
 #![tactic(auto)]
 
 mod command;

@@ -10,7 +10,8 @@ const MOST: usize = 4;
 
 const SLOTS: usize = 2;
 
-// The bytes of a slot: the number of states, the final states, two leaf cells and two squares of inner cells.
+// The bytes of a slot, as a constant for the arrays: the number of states, the final states, two leaf cells and two squares
+// of inner cells.
 const WIDTH: usize = 1 + MOST + 2 + 2 * MOST * MOST;
 
 // Fills slot 0 of a new rack, and writes its listing to the front of the buffer.
