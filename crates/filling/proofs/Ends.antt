@@ -1,64 +1,85 @@
 -- The ends of a call that fills a slot.
-use Rattle.std.proofs.Common.{◌≡◌, ℕ, List, take, IsErrAnd, Some, Ok, Err, Option, Result, sym, refl, ap, ◌∙◌, subst, inl, inr}
+use Rattle.std.proofs.Common.{◌≡◌, ℕ, ◌+◌, ◌≤◌, Bool, List, [], ◌∷◌, ◌++◌, length, take, drop, IsErrAnd, None, Ok, Err, Option, Result, sym, refl, ap, ◌∙◌, subst, ap₂, inl, inr, arith}
 use Rattle.trees.specs.declared.refusal.Refusal.{Refusal}
-use Rattle.trees.specs.Reading.{or_else}
 use Rattle.automata.specs.Automata.{Automaton}
 use Rattle.automata.specs.Rules.{Atom}
 use Rattle.automata.specs.Atoms.{atom_automaton}
+use Rattle.automata.specs.Layers.{pair_layer}
 use Rattle.tables.specs.Tables.{TooMany}
 use Rattle.tables.specs.Canonical.{TableIn}
 use Rattle.atoms.specs.Making.{atom_refusal}
 use Rattle.racks.specs.declared.rack.Rack.{Rack}
-use Rattle.racks.specs.Racks.{slot_bytes, put_slot}
+use Rattle.racks.specs.Racks.{slot_bytes, put_slot, slot_machine}
 use Rattle.racks.specs.Calls.{Lent, Call, Write, refused, filled, due, write, table, check_lent, Crowded, Written, Effect}
 use Rattle.racks.specs.Promises.{filled_by, Done}
-use Rattle.racks.proofs.Dones as dones
 use Rattle.racks.proofs.Dones.{done}
+use Rattle.store.specs.declared.slot.Slots.{Slots}
+use Rattle.store.specs.declared.slot.Slot.{Slot}
+use Rattle.store.specs.declared.slot.Place.{Place}
+use Rattle.store.specs.Checks.{IsSlots, IsSlot, put_place}
 use Rattle.store.proofs.Exits.{handed}
-use Rattle.filling.specs.Fillings.{Makes, MakesAtom}
+use Rattle.filling.specs.Fillings.{Makes, MakesAtom, Fills}
 
-module _ (R : Rack) (c : Call) (store : List ℕ) where
-  handed_on : (r : Result (Unit {0}) Refusal) (e : Refusal) → IsErrAnd r (λ y. y ≡ e) → Done R c store store (refused e) → Done R c store store (filled_by r store)
-  handed_on r e by d = subst (λ (x : Result (Unit {0}) Refusal). Done R c store store (filled_by x store)) (sym (handed r e by)) d
+-- the build of the table that the call writes
+at_slot : (s : Slot) (c : Call) (M M' : Automaton) → M' ≡ M → (l : Lent) (cells : List ℕ) (r : Result Place Refusal)
+    → write s.slots.rack s.slots.store.now c ≡ table s.number M → due s.slots.rack s.slots.store.now c ≡ check_lent s.slots.rack l → Makes s M' l cells r
+    → Fills s.slots.rack s.slots.store.now s.number c cells r
+at_slot s c M M' is l cells (Ok p) w d m = (
+  m.1.start,
+  m.1.width,
+  m.1.room,
+  omega (arith, m.1.width, m.2.room),
+  (
+    d ∙ m.0,
+    subst (λ (x : Write). Written s.slots.rack s.slots.store.now x (put_slot s.slots.rack s.number (take (slot_bytes s.slots.rack) cells) s.slots.store.now)) (sym w)
+        (record {
+          few = subst (λ (a : Automaton). ¬ TooMany a s.slots.rack.most) is m.2.few;
+          states = m.2.states;
+          bytes = take (slot_bytes s.slots.rack) cells;
+          held = subst (λ (a : Automaton). TableIn a s.slots.rack.most m.2.states (take (slot_bytes s.slots.rack) cells)) is m.2.held;
+          is = refl;
+        }),
+  ),
+)
+at_slot s c M M' is l cells (Err e) w d (inl x) = inl (d ∙ x)
+at_slot s c M M' is l cells (Err e) w d (inr x) =
+    inr (d ∙ x.0, x.1, subst (Crowded s.slots.rack) (sym w) (subst (λ (a : Automaton). TooMany a s.slots.rack.most) is x.2))
 
+-- the build of an atom's table
+pub atom_made : (s : Slot) (A : Atom) (M : Automaton) → M ≡ atom_automaton s.slots.rack.shape A → atom_refusal s.slots.rack.shape A ≡ None → (l : Lent) (cells : List ℕ)
+    (r : Result Place Refusal) → Makes s M l cells r → MakesAtom s A l cells r
+atom_made s A M is free l cells (Ok p) m = (free, subst (λ (a : Automaton). Makes s a l cells (Ok p)) is m)
+atom_made s A M is free l cells (Err e) m = inr (free, subst (λ (a : Automaton). Makes s a l cells (Err e)) is m)
+
+module _ (R : Rack) (store : List ℕ) (v : Slots) (in_store : IsSlots R store v) where
+  pub pair_at : (op : Bool → Bool → Bool) (x y : ℕ) (M : Automaton) → M ≡ pair_layer op (slot_machine v.rack v.store.now x) (slot_machine v.rack v.store.now y)
+      → M ≡ pair_layer op (slot_machine R store x) (slot_machine R store y)
+  pair_at op x y M e = e ∙ ap₂ (λ (R : Rack) (xs : List ℕ). pair_layer op (slot_machine R xs x) (slot_machine R xs y)) in_store.rack in_store.store_is
+
+  -- a slot of these
+  module _ (k : ℕ) (s : Slot) (is : IsSlot v.rack v.store.now k s) where
+    moved : (P : Rack → List ℕ → ℕ → Type 0) → P s.slots.rack s.slots.store.now s.number → P R store k
+    moved P p =
+        subst (λ (R : Rack). P R store k) (is.slots.rack ∙ in_store.rack)
+        (subst (λ (xs : List ℕ). P s.slots.rack xs k) (is.slots.store_is ∙ in_store.store_is)
+        (subst (λ (n : ℕ). P s.slots.rack s.slots.store.now n) is.number p))
+
+    pub machine_at : (M : Automaton) → M ≡ slot_machine s.slots.rack s.slots.store.now s.number → M ≡ slot_machine R store k
+    machine_at M e = moved (λ R xs n. M ≡ slot_machine R xs n) e
+
+    pub fills : (c : Call) (M M' : Automaton) → M' ≡ M → (l : Lent) (cells : List ℕ) (r : Result Place Refusal) → write R store c ≡ table k M
+        → due R store c ≡ check_lent R l → Makes s M' l cells r → Fills R store k c cells r
+    fills c M M' is l cells r w d m =
+        moved (λ R xs n. write R xs c ≡ table n M → due R xs c ≡ check_lent R l → Fills R xs n c cells r) (λ w d. at_slot s c M M' is l cells r w d m) w d
+
+module _ (R : Rack) (store : List ℕ) (k : ℕ) (c : Call) where
   -- a refusal that `?` hands on
-  pub denied : (r : Result (Unit {0}) Refusal) (e : Refusal) → IsErrAnd r (λ y. y ≡ e) → due R store c ≡ Some e → Done R c store store (filled_by r store)
-  denied r e by d = handed_on r e by (dones.denied R c store e d)
+  pub denied : (r : Result (Unit {0}) Refusal) (e : Refusal) → IsErrAnd r (λ y. y ≡ e) → Effect R store c (refused e) → Done R c store store (filled_by r store)
+  denied r e by x = subst (λ (r : Result (Unit {0}) Refusal). Done R c store store (filled_by r store)) (sym (handed r e by)) (done R c store store (refused e) x refl)
 
-  -- M' is the machine that was built
-  module _ (k : ℕ) (M M' : Automaton) (is : M' ≡ M) (l : Lent) (cells : List ℕ) (w : write R store c ≡ table k M) (d : due R store c ≡ check_lent R l) where
-    unbuilt : (e : Refusal) → Makes R M' l cells (Err e) → Effect R store c (refused e)
-    unbuilt e (inl x) = inl (d ∙ x)
-    unbuilt e (inr x) = inr (d ∙ x.0, x.1, subst (Crowded R) (sym w) (subst (λ (m : Automaton). TooMany m R.most) is x.2))
-
-    -- the build was refused
-    pub not_built : (r : Result (Unit {0}) Refusal) (e : Refusal) → IsErrAnd r (λ y. y ≡ e) → Makes R M' l cells (Err e) → Done R c store store (filled_by r store)
-    not_built r e by m = handed_on r e by (done R c store store (refused e) (unbuilt e m) refl)
-
-    -- the table is in its slot
-    pub placed : (u v : Unit {0}) (after : List ℕ) → Makes R M' l cells (Ok v) → after ≡ put_slot R k (take (slot_bytes R) cells) store → Done R c store after (filled_by (Ok u) after)
-    placed u v after m e =
-        done R c store after (filled after) (
-          d ∙ m.0,
-          subst (λ (x : Write). Written R store x after) (sym w)
-              (record {
-                few = subst (λ (a : Automaton). ¬ TooMany a R.most) is m.1.few;
-                states = m.1.states;
-                bytes = take (slot_bytes R) cells;
-                held = subst (λ (a : Automaton). TableIn a R.most m.1.states (take (slot_bytes R) cells)) is m.1.held;
-                is = e;
-              }),
-        ) refl
-
--- an atom is refused by itself, or its table is not built
-module _ (R : Rack) (c : Call) (store : List ℕ) (k : ℕ) (A : Atom) (l : Lent) (cells : List ℕ) (w : write R store c ≡ table k (atom_automaton R.shape A))
-    (d : due R store c ≡ or_else (atom_refusal R.shape A) (check_lent R l)) where
-  pub atom_not_built : (r : Result (Unit {0}) Refusal) (e : Refusal) → IsErrAnd r (λ y. y ≡ e) → MakesAtom R A l cells (Err e) → Done R c store store (filled_by r store)
-  atom_not_built r e by (inl x) = denied R c store r e by (d ∙ ap (λ (o : Option Refusal). or_else o (check_lent R l)) x)
-  atom_not_built r e by (inr x) =
-      not_built R c store k (atom_automaton R.shape A) (atom_automaton R.shape A) refl l cells w (d ∙ ap (λ (o : Option Refusal). or_else o (check_lent R l)) x.0) r e by x.1
-
-  pub atom_placed : (u v : Unit {0}) (after : List ℕ) → MakesAtom R A l cells (Ok v) → after ≡ put_slot R k (take (slot_bytes R) cells) store
-      → Done R c store after (filled_by (Ok u) after)
-  atom_placed u v after m e =
-      placed R c store k (atom_automaton R.shape A) (atom_automaton R.shape A) refl l cells w (d ∙ ap (λ (o : Option Refusal). or_else o (check_lent R l)) m.0) u v after m.1 e
+  -- the bytes are in their slot
+  pub placed : (p : Place) (cells after : List ℕ) → Fills R store k c cells (Ok p) → after ≡ put_place p (take p.width cells) store → Done R c store after (filled after)
+  placed p cells after f e = done R c store after (filled after) (subst (λ (xs : List ℕ). Effect R store c (filled xs)) (sym (e ∙ at)) f.4) refl
+    where
+      at : put_place p (take p.width cells) store ≡ put_slot R k (take (slot_bytes R) cells) store
+      at = ap₂ (λ (n w : ℕ). take n store ++ (take w cells ++ drop (n + w) store)) f.0 f.1

@@ -1,70 +1,50 @@
-// A machine's table built for a rack, in lent memory.
-ghost use Rattle.std.specs.Prelude.{◌≡◌, true};
-ghost use Rattle.atoms.specs.Making.{asked, Makes as AtomMakes};
-ghost use Rattle.racks.specs.Racks.{rack_fits};
-ghost use Rattle.racks.specs.Promises.{lent};
-ghost use Rattle.filling.specs.Fillings.{Makes, MakesAtom};
+// A machine's table built for a slot, in lent memory.
+ghost use Rattle.std.specs.Prelude.{◌≡◌};
+ghost use Rattle.atoms.specs.Making.{asked};
+ghost use Rattle.racks.specs.Promises.{lent_by};
+ghost use Rattle.filling.specs.Fillings.{Makes, MakesAtom, SameMemory};
 
 use atoms::{Atom, Below, Lab, Left, Right, Sing, Sub};
 use build::{Build, build_cleared};
 use machine::Machine;
-use racks::Rack;
-use store::refused;
+use racks::Working;
+use store::{Place, Slot, refused};
 use trees::{Reason, Refusal};
 
-// Leaves the image of the machine's table in the first cells.
+// Leaves the bytes of the machine's table in the first cells, and answers where they go.
 pub(crate) fn build_in<M: Machine>(
-    rack: Rack,
+    slot: Slot<'_>,
     machine: &M,
-    codes: &mut [u64],
-    cells: &mut [u8],
-    classes: &mut [u8],
-) -> Result<(), Refusal>
-    requires { (rack_fits rack ≡ true) × ((M.Machine.meaning machine.now).shape ≡ rack.shape) }
-    ensures { Makes rack (M.Machine.meaning machine.now) (lent codes.old cells.old classes.old) cells.new result }
+    working: &mut Working<'_>,
+) -> Result<Place, Refusal>
+    requires { (M.Machine.meaning machine.now).shape ≡ slot.slots.rack.shape }
+    ensures made { Makes slot.entry (M.Machine.meaning machine.now) (lent_by working.old) working.new.cells.now result }
+    ensures same { SameMemory working.old working.new }
 {
-    match build_cleared(machine, rack.most, codes, cells, classes) {
-        Build::Built(_) => Ok(()),
+    let most = slot.slots.rack.most;
+    match build_cleared(machine, most, working.codes, working.cells, working.classes) {
+        Build::Built(_) => Ok(slot.place()),
         Build::TooMany => Err(refused(Reason::TooManyStates)),
         Build::Unserved => Err(refused(Reason::MemoryTooShort)),
     }
 }
 
-// The same for an atom's machine, where it was made.
-fn build_made<M: Machine + Drop>(
-    rack: Rack,
-    atom: Atom,
-    made: Result<M, Refusal>,
-    codes: &mut [u64],
-    cells: &mut [u8],
-    classes: &mut [u8],
-) -> Result<(), Refusal>
-    requires { (rack_fits rack ≡ true) × (AtomMakes rack.shape (asked atom) M.Machine.meaning made) }
-    ensures { MakesAtom rack (asked atom) (lent codes.old cells.old classes.old) cells.new result }
-{
-    match made {
-        Ok(machine) => build_in(rack, &machine, codes, cells, classes),
-        Err(refusal) => Err(refusal),
-    }
-}
-
+// The same for an atom's machine, where it is made.
 pub(crate) fn build_atom(
-    rack: Rack,
+    slot: Slot<'_>,
     atom: Atom,
-    codes: &mut [u64],
-    cells: &mut [u8],
-    classes: &mut [u8],
-) -> Result<(), Refusal>
-    requires { rack_fits rack ≡ true }
-    ensures { MakesAtom rack (asked atom) (lent codes.old cells.old classes.old) cells.new result }
+    working: &mut Working<'_>,
+) -> Result<Place, Refusal>
+    ensures made { MakesAtom slot.entry (asked atom) (lent_by working.old) working.new.cells.now result }
+    ensures same { SameMemory working.old working.new }
 {
-    let shape = rack.shape;
+    let shape = slot.slots.rack.shape;
     match atom {
-        Atom::Sub(i, j) => build_made(rack, atom, Sub::new(shape, i, j), codes, cells, classes),
-        Atom::Lab(i, a) => build_made(rack, atom, Lab::new(shape, i, a), codes, cells, classes),
-        Atom::Sing(i) => build_made(rack, atom, Sing::new(shape, i), codes, cells, classes),
-        Atom::Left(i, j) => build_made(rack, atom, Left::new(shape, i, j), codes, cells, classes),
-        Atom::Right(i, j) => build_made(rack, atom, Right::new(shape, i, j), codes, cells, classes),
-        Atom::Below(i, j) => build_made(rack, atom, Below::new(shape, i, j), codes, cells, classes),
+        Atom::Sub(i, j) => build_in(slot, &Sub::new(shape, i, j)?, working),
+        Atom::Lab(i, a) => build_in(slot, &Lab::new(shape, i, a)?, working),
+        Atom::Sing(i) => build_in(slot, &Sing::new(shape, i)?, working),
+        Atom::Left(i, j) => build_in(slot, &Left::new(shape, i, j)?, working),
+        Atom::Right(i, j) => build_in(slot, &Right::new(shape, i, j)?, working),
+        Atom::Below(i, j) => build_in(slot, &Below::new(shape, i, j)?, working),
     }
 }

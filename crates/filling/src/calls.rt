@@ -1,12 +1,12 @@
-// The calls. Each guards its working memory before the first check, so that it ends all zeros on every way out.
+// The calls that fill a slot. Working memory ends all zeros on every way out.
 ghost use Rattle.atoms.specs.Making.{asked};
 ghost use Rattle.racks.specs.Calls.{call_atom, call_not, call_both, call_either, call_some, call_take};
-ghost use Rattle.racks.specs.Promises.{lent, Zeroed, filled_by, Done};
+ghost use Rattle.racks.specs.Promises.{lent_by, AllZeroed, filled_by, Done};
 
-use crate::fills::{fill_atom, fill_not, fill_pair, fill_some, fill_take};
+use crate::filling::fill;
+use crate::fillings::{Complement, Pair, Projection, Taken};
 use atoms::Atom;
 use layers::{And, Or};
-use lent::Cleared;
 use machine::Machine;
 use racks::{Rack, Working};
 use trees::Refusal;
@@ -19,28 +19,15 @@ pub fn atom(
     atom: Atom,
     working: Working<'_>,
 ) -> Result<(), Refusal>
-    ensures done { Done rack (call_atom res (asked atom) (lent working.entry.codes.now working.entry.cells.now working.entry.classes.now)) store.old store.new (filled_by result store.new) }
-    ensures codes { Zeroed working.entry.codes.now working.exit.0.now }
-    ensures cells { Zeroed working.entry.cells.now working.exit.1.0.now }
-    ensures classes { Zeroed working.entry.classes.now working.exit.1.1.0.now }
+    ensures done { Done rack (call_atom res (asked atom) (lent_by working.entry)) store.old store.new (filled_by result store.new) }
+    ensures cleared { AllZeroed working.entry working.exit.0.now working.exit.1.0.now working.exit.1.1.0.now }
 {
     let Working {
         codes,
         cells,
         classes,
     } = working;
-    let codes = Cleared { cells: codes };
-    let cells = Cleared { cells };
-    let classes = Cleared { cells: classes };
-    fill_atom(
-        rack,
-        store,
-        res,
-        atom,
-        codes.cells,
-        cells.cells,
-        classes.cells,
-    )
+    fill(&atom, rack, store, res, codes, cells, classes)
 }
 
 // The table of what the source's table does not accept.
@@ -51,28 +38,16 @@ pub fn not(
     source: usize,
     working: Working<'_>,
 ) -> Result<(), Refusal>
-    ensures done { Done rack (call_not res source (lent working.entry.codes.now working.entry.cells.now working.entry.classes.now)) store.old store.new (filled_by result store.new) }
-    ensures codes { Zeroed working.entry.codes.now working.exit.0.now }
-    ensures cells { Zeroed working.entry.cells.now working.exit.1.0.now }
-    ensures classes { Zeroed working.entry.classes.now working.exit.1.1.0.now }
+    ensures done { Done rack (call_not res source (lent_by working.entry)) store.old store.new (filled_by result store.new) }
+    ensures cleared { AllZeroed working.entry working.exit.0.now working.exit.1.0.now working.exit.1.1.0.now }
 {
     let Working {
         codes,
         cells,
         classes,
     } = working;
-    let codes = Cleared { cells: codes };
-    let cells = Cleared { cells };
-    let classes = Cleared { cells: classes };
-    fill_not(
-        rack,
-        store,
-        res,
-        source,
-        codes.cells,
-        cells.cells,
-        classes.cells,
-    )
+    let call = Complement { source };
+    fill(&call, rack, store, res, codes, cells, classes)
 }
 
 // The table of what both accept.
@@ -84,30 +59,20 @@ pub fn both(
     right: usize,
     working: Working<'_>,
 ) -> Result<(), Refusal>
-    ensures done { Done rack (call_both res left right (lent working.entry.codes.now working.entry.cells.now working.entry.classes.now)) store.old store.new (filled_by result store.new) }
-    ensures codes { Zeroed working.entry.codes.now working.exit.0.now }
-    ensures cells { Zeroed working.entry.cells.now working.exit.1.0.now }
-    ensures classes { Zeroed working.entry.classes.now working.exit.1.1.0.now }
+    ensures done { Done rack (call_both res left right (lent_by working.entry)) store.old store.new (filled_by result store.new) }
+    ensures cleared { AllZeroed working.entry working.exit.0.now working.exit.1.0.now working.exit.1.1.0.now }
 {
     let Working {
         codes,
         cells,
         classes,
     } = working;
-    let codes = Cleared { cells: codes };
-    let cells = Cleared { cells };
-    let classes = Cleared { cells: classes };
-    fill_pair(
-        rack,
-        store,
-        And,
-        res,
+    let pair = Pair {
+        connective: And,
         left,
         right,
-        codes.cells,
-        cells.cells,
-        classes.cells,
-    )
+    };
+    fill(&pair, rack, store, res, codes, cells, classes)
 }
 
 // The table of what one of them accepts.
@@ -119,30 +84,20 @@ pub fn either(
     right: usize,
     working: Working<'_>,
 ) -> Result<(), Refusal>
-    ensures done { Done rack (call_either res left right (lent working.entry.codes.now working.entry.cells.now working.entry.classes.now)) store.old store.new (filled_by result store.new) }
-    ensures codes { Zeroed working.entry.codes.now working.exit.0.now }
-    ensures cells { Zeroed working.entry.cells.now working.exit.1.0.now }
-    ensures classes { Zeroed working.entry.classes.now working.exit.1.1.0.now }
+    ensures done { Done rack (call_either res left right (lent_by working.entry)) store.old store.new (filled_by result store.new) }
+    ensures cleared { AllZeroed working.entry working.exit.0.now working.exit.1.0.now working.exit.1.1.0.now }
 {
     let Working {
         codes,
         cells,
         classes,
     } = working;
-    let codes = Cleared { cells: codes };
-    let cells = Cleared { cells };
-    let classes = Cleared { cells: classes };
-    fill_pair(
-        rack,
-        store,
-        Or,
-        res,
+    let pair = Pair {
+        connective: Or,
         left,
         right,
-        codes.cells,
-        cells.cells,
-        classes.cells,
-    )
+    };
+    fill(&pair, rack, store, res, codes, cells, classes)
 }
 
 // The table of what some set of nodes, put in the track, makes the source's table accept.
@@ -154,29 +109,16 @@ pub fn some(
     track: usize,
     working: Working<'_>,
 ) -> Result<(), Refusal>
-    ensures done { Done rack (call_some res source track (lent working.entry.codes.now working.entry.cells.now working.entry.classes.now)) store.old store.new (filled_by result store.new) }
-    ensures codes { Zeroed working.entry.codes.now working.exit.0.now }
-    ensures cells { Zeroed working.entry.cells.now working.exit.1.0.now }
-    ensures classes { Zeroed working.entry.classes.now working.exit.1.1.0.now }
+    ensures done { Done rack (call_some res source track (lent_by working.entry)) store.old store.new (filled_by result store.new) }
+    ensures cleared { AllZeroed working.entry working.exit.0.now working.exit.1.0.now working.exit.1.1.0.now }
 {
     let Working {
         codes,
         cells,
         classes,
     } = working;
-    let codes = Cleared { cells: codes };
-    let cells = Cleared { cells };
-    let classes = Cleared { cells: classes };
-    fill_some(
-        rack,
-        store,
-        res,
-        source,
-        track,
-        codes.cells,
-        cells.cells,
-        classes.cells,
-    )
+    let call = Projection { source, track };
+    fill(&call, rack, store, res, codes, cells, classes)
 }
 
 // The table of a machine of any make.
@@ -187,26 +129,14 @@ pub fn take<M: Machine>(
     machine: &M,
     working: Working<'_>,
 ) -> Result<(), Refusal>
-    ensures done { Done rack (call_take res (M.Machine.meaning machine.now) (lent working.entry.codes.now working.entry.cells.now working.entry.classes.now)) store.old store.new (filled_by result store.new) }
-    ensures codes { Zeroed working.entry.codes.now working.exit.0.now }
-    ensures cells { Zeroed working.entry.cells.now working.exit.1.0.now }
-    ensures classes { Zeroed working.entry.classes.now working.exit.1.1.0.now }
+    ensures done { Done rack (call_take res (M.Machine.meaning machine.now) (lent_by working.entry)) store.old store.new (filled_by result store.new) }
+    ensures cleared { AllZeroed working.entry working.exit.0.now working.exit.1.0.now working.exit.1.1.0.now }
 {
     let Working {
         codes,
         cells,
         classes,
     } = working;
-    let codes = Cleared { cells: codes };
-    let cells = Cleared { cells };
-    let classes = Cleared { cells: classes };
-    fill_take(
-        rack,
-        store,
-        res,
-        machine,
-        codes.cells,
-        cells.cells,
-        classes.cells,
-    )
+    let call = Taken { machine };
+    fill(&call, rack, store, res, codes, cells, classes)
 }

@@ -3,6 +3,7 @@
 
 mod builds;
 mod calls;
-mod fills;
+mod filling;
+mod fillings;
 
 pub use calls::{atom, both, either, not, some, take};

@@ -1,7 +1,9 @@
 -- What a call promises of its outcome and of the store.
 -- Words:
 --   lent codes cells classes   the lengths of lent memory
+--   lent_by w                  those lengths of a call's working memory
 --   Zeroed before after        every place of the slice is 0 afterwards
+--   AllZeroed w codes cells classes   so it is of each slice of the working memory
 --   rack_of F I K N S          the rack of these numbers
 --   MakesRack R before after r what Make answers: the rack, its slots' bytes zeroed and no other touched, and kept under the empty log; or the first refusal due
 --   filled_by r after    the outcome of a call that writes the store: filled with what is there after, or the refusal
@@ -14,6 +16,7 @@
 use Rattle.std.specs.Prelude.{◌≡◌, ℕ, Bool, List, [], ◌∷◌, ◌++◌, length, take, drop, replicate, Some, None, Ok, Err, Result}
 use Rattle.trees.specs.declared.refusal.Refusal.{Refusal}
 use Rattle.racks.specs.declared.rack.Rack.{Rack}
+use Rattle.racks.specs.declared.working.Working.{Working}
 use Rattle.racks.specs.Racks.{store_bytes}
 use Rattle.racks.specs.Calls.{Lent, Call, check_open, Outcome, refused, filled, judged, listed, Effect, store_after}
 use Rattle.racks.specs.Log.{Log, entry, KeptIn}
@@ -22,8 +25,14 @@ use Rattle.racks.specs.Guarantee.{VerdictRight, ListsRight}
 abbrev pub lent : List ℕ → List ℕ → List ℕ → Lent
 lent codes cells classes = record { codes = length codes; cells = length cells; classes = length classes }
 
+abbrev pub lent_by : Working → Lent
+lent_by w = lent w.codes.now w.cells.now w.classes.now
+
 abbrev pub Zeroed : List ℕ → List ℕ → Type 0
 Zeroed before after = after ≡ replicate (length before) 0
+
+abbrev pub AllZeroed : Working → List ℕ → List ℕ → List ℕ → Type 0
+AllZeroed w codes cells classes = Zeroed w.codes.now codes × Zeroed w.cells.now cells × Zeroed w.classes.now classes
 
 abbrev pub rack_of : ℕ → ℕ → ℕ → ℕ → ℕ → Rack
 rack_of F I K N S = record { shape = record { leaves = F; inners = I; tracks = K }; most = N; slots = S }

@@ -8,7 +8,7 @@ use Rattle.trees.specs.Shapes.{limits, within}
 use Rattle.trees.proofs.Limits.{bounds}
 use Rattle.tables.specs.Images.{width, Fits}
 use Rattle.racks.specs.declared.rack.Rack.{Rack}
-use Rattle.racks.specs.Racks.{rack_fits}
+use Rattle.racks.specs.Racks.{rack_fits, slot_bytes}
 
 -- what it is for a rack to be within its limits
 pub record Limits (R : Rack) : Type 0 where
@@ -41,16 +41,12 @@ width_small sh N f =
     let p : 2 ^ sh.tracks ≤ 64 = pow_mono {i = sh.tracks} {j = 6} b.tracks.1 in
     small N (sh.leaves * 2 ^ sh.tracks) (sh.inners * 2 ^ sh.tracks) f.few (mul-le sh.leaves (2 ^ sh.tracks) 8 64 b.leaves.1 p) (mul-le sh.inners (2 ^ sh.tracks) 4 64 b.inners.1 p)
 
+-- no number of slots is too large to count bytes
+pub slots_small : (R : Rack) (n w : ℕ) → rack_fits R ≡ true → w ≡ slot_bytes R → n ≤ R.slots → n * w ≤ 4203024
+slots_small R n w e is h =
+    let l = rack_limits R e in
+    let v = width_small R.shape R.most l.fits in
+    mul-le n w 16 262689 (omega arith) (omega arith)
+
 pub slot_room : (k s w len : ℕ) → k < s → s * w ≤ len → k * w + w ≤ len
 slot_room k s w len h r = let z : suc k * w ≤ s * w = mul-le-mul_right w h in omega arith
-
--- bytes written over a part of the store
-pub put_is : (k W to w : ℕ) (xs ys zs : List ℕ) → to ≡ k * W → w ≡ W → ys ≡ zs → put_mid to w xs ys ≡ take (k * W) xs ++ (zs ++ drop (k * W + W) xs)
-put_is k W to w xs ys zs e g h =
-    ap (λ (z : ℕ). put_mid to z xs ys) g
-    ∙ (ap (λ (z : ℕ). put_mid z W xs ys) e
-    ∙ (ap (λ (z : List ℕ). take (k * W) xs ++ (z ++ drop W (drop (k * W) xs))) h
-    ∙ ap (λ (z : List ℕ). take (k * W) xs ++ (zs ++ z)) (dropped (k * W) W xs)))
-  where
-    dropped : (a b : ℕ) (xs : List ℕ) → drop b (drop a xs) ≡ drop (a + b) xs
-    dropped a b xs = simp drop-drop (ap (λ (n : ℕ). drop n xs) (omega arith))

@@ -2,7 +2,9 @@
 #![tactic(auto)]
 
 mod checks;
+mod refusal;
 mod slot;
 
-pub use checks::{free_slot, full_slot, one_source, open, refused, two_sources};
-pub use slot::{clear_slot, put_slot, slot_machine, slot_part};
+pub use checks::{filled, ready};
+pub use refusal::refused;
+pub use slot::{Place, Slot, Slots};
