@@ -32,11 +32,7 @@ pub struct Image {
 
 impl Image {
     pub fn table(&self) -> SlotTable<'_> {
-        SlotTable {
-            bytes: self.cells.as_slice(),
-            shape: self.layout.shape,
-            most: self.layout.most,
-        }
+        SlotTable::new(self.cells.as_slice(), self.layout.shape, self.layout.most)
     }
 
     pub fn checksum(&self) -> u64 {

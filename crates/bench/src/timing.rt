@@ -1,6 +1,4 @@
 // The build of one table: its states, a checksum of its image, and its time.
-ghost use Rattle.tables.specs.Images.{Fits};
-
 use crate::fault::Fault;
 use crate::image::{Image, Unbuilt, build};
 use machine::Machine;
@@ -13,7 +11,6 @@ pub struct Bench<'a> {
     pub rt: &'a HostRuntime,
     pub layout: Layout,
     pub timed: bool,
-    ghost fits: { Fits layout.shape layout.most },
 }
 
 impl Bench<'_> {

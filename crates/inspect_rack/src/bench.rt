@@ -29,8 +29,7 @@ pub struct Bench {
 
 // The bytes of a slot, or none where no table of the shape fits.
 fn width(shape: Shape) -> Option<usize> {
-    let layout = Layout { shape, most: MOST };
-    layout.fits().then(|| layout.width())
+    Layout::new(shape, MOST).map(|layout| layout.width())
 }
 
 impl Bench {

@@ -21,11 +21,7 @@ pub struct Image {
 
 impl Image {
     pub fn table(&self) -> SlotTable<'_> {
-        SlotTable {
-            bytes: self.cells.as_slice(),
-            shape: self.layout.shape,
-            most: self.layout.most,
-        }
+        SlotTable::new(self.cells.as_slice(), self.layout.shape, self.layout.most)
     }
 
     pub fn states(&self) -> u8 {
@@ -49,11 +45,9 @@ pub fn build<M: Machine>(
     machine: &M,
     most: usize,
 ) -> Result<Result<Image, Unbuilt>, AllocError> {
-    let layout = Layout {
-        shape: machine.shape(),
-        most,
+    let Some(layout) = Layout::new(machine.shape(), most) else {
+        return Ok(Err(Unbuilt::Unserved));
     };
-    let width = if layout.fits() { layout.width() } else { 0 };
-    let mut cells = vec![in alloc; 0u8; width]?;
+    let mut cells = vec![in alloc; 0u8; layout.width()]?;
     Ok(build_in(machine, most, cells.as_mut_slice()).map(|_| Image { layout, cells }))
 }

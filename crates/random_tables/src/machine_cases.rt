@@ -2,7 +2,7 @@
 use crate::brute::{Brute, image_of};
 use crate::image::{Image, Unbuilt, build};
 use crate::random::Random;
-use slots::Layout;
+use machines::SlotTable;
 use std::alloc::{AllocError, Global};
 use std::num::{NonZeroU8, Saturating};
 use trees::Shape;
@@ -153,16 +153,11 @@ impl Tally {
             inners: random.byte_below(2).saturating_add(1),
             tracks: random.byte_below(2).saturating_add(1),
         };
-        let machine = Image {
-            layout: Layout {
-                shape,
-                most: usize::from(ROOM),
-            },
-            cells: Draft::new(random).cells(alloc, shape)?,
-        };
+        let cells = Draft::new(random).cells(alloc, shape)?;
+        let machine = SlotTable::new(cells.as_slice(), shape, usize::from(ROOM));
         let most = usize::from(random.byte_below(9).saturating_add(4));
-        let expected = image_of(alloc, &machine.table(), most)?;
-        let built = build(alloc, &machine.table(), most)?;
+        let expected = image_of(alloc, &machine, most)?;
+        let built = build(alloc, &machine, most)?;
         self.count(&built, &expected);
         Ok(())
     }
