@@ -1,7 +1,7 @@
 -- The bytes that are written are the image of the machine's table.
 use Rattle.std.proofs.Common.{◌≡◌, ℕ, ◌+◌, ◌-◌, ◌*◌, ◌/◌, ◌%◌, ◌^◌, ◌<◌, ◌≤◌, Bool, cond, ◌&&◌, ltb, ◌⊎◌, List, length, get_or, take, set, sym, refl, ap, ◌∙◌, subst, ap₂, inl, inr, mul_assoc, arith}
 use lib.Arith.{digits_div, digits_mod, digits_lt}
-use Rattle.std.proofs.lemmas.List.{get_or-take, length-take-le, get_or-set_same, get_or-set_other}
+use Rattle.std.proofs.lemmas.List.{get_or-take, length-take-le, length-set, get_or-set_same, get_or-set_other}
 use Rattle.std.proofs.lemmas.Bool.{lt-ltb, le-ltb, and_from, and_left, and_right}
 use Rattle.trees.specs.declared.shape.Shape.{Shape}
 use Rattle.trees.specs.Shapes.{LeafLabel, InnerLabel, Marks}
@@ -11,16 +11,18 @@ use Rattle.automata.specs.Numbering.{Table, at_leaf, at_inner}
 use Rattle.tables.specs.Tables.{TableOf}
 use Rattle.tables.specs.Exploring.{code_at}
 use Rattle.tables.specs.Merging.{merged_table}
-use Rattle.tables.specs.Images.{width, leaf_address, inner_address, Image}
+use Rattle.tables.specs.Images.{width, leaf_address, inner_address, Image, leaf_rows, inner_rows}
 use Rattle.tables.proofs.TooManies.{too_many_found}
 use Rattle.tables.proofs.Merges.{merged_table_of}
 use Rattle.tables.proofs.Rounds.{numbered_merged}
-use Rattle.build.specs.Layouts.{leaf_rows, inner_rows}
 use Rattle.build.specs.Discovery.{Ready, Discovered, index_table}
 use Rattle.build.specs.Refinement.{class_at, Indexed, Classed}
 use Rattle.build.specs.Imaging.{Firsts, Filled, final_byte, leaf_byte, inner_byte, of_states, source_at, Built}
-use Rattle.build.specs.declared.layout.Layout.{Layout}
-use Rattle.build.proofs.Addresses.{address_lt}
+use Rattle.slots.specs.declared.layout.Layout.{Layout}
+use Rattle.tables.proofs.Questions.{address_lt}
+use borrow.Rule.Slice.PartMut.{put_mid, same_len_mid}
+use Rattle.build.proofs.Fills.{lent_part, part_reads, part_long, lent_filled, filled_at, past_finals}
+use Rattle.build.proofs.Refinements.{discovered_indexed}
 use Rattle.build.proofs.Turns.{row_is, row_label, row_marks}
 
 -- the three digits of an inner cell
@@ -40,10 +42,9 @@ module _ (N r x y : ℕ) (hx : x < N) (hy : y < N) where
   low_digit = ap (λ (j : ℕ). j % N) as_two ∙ digits_mod (r * N + x) hy
 
 -- the inner cells of a table stay where the bytes behind the leaf cells stay
-pub kept_indexed : (l : Layout) (n : ℕ) (xs ys : List ℕ) → Indexed l n xs → length ys ≡ length xs
+kept_indexed : (l : Layout) (n : ℕ) (xs ys : List ℕ) → Indexed l n xs → length ys ≡ length xs
     → ((j : ℕ) → 1 + l.most + leaf_rows l.shape ≤ j → get_or ys j 0 ≡ get_or xs j 0) → Indexed l n ys
 kept_indexed l n xs ys ix len same = record {
-  fits = ix.fits;
   room = ix.room;
   lent = omega (arith, ix.lent, len);
   inside = λ a m x y ha hm hx hy.
@@ -72,7 +73,7 @@ module _ (M : Automaton) (l : Layout) (lc lb : ℕ) (codes cells cls firsts : Li
       merged_table_of M (code_at codes) (index_table M l.most n codes cells) d.all k (class_at cls) first
       (numbered_merged M (code_at codes) (index_table M l.most n codes cells) (class_at cls) first k cl (λ s h. (fi.within s h, fi.is s h, λ x i. fi.before s x h i)))
 
-  pub leaf_index : (row : ℕ) → row < leaf_rows l.shape → get_or cells (1 + l.most + row) 0 < n
+  leaf_index : (row : ℕ) → row < leaf_rows l.shape → get_or cells (1 + l.most + row) 0 < n
   leaf_index row h =
       let h' : row < leaf_rows M.shape = subst (λ (s : Shape). row < leaf_rows s) ready.shape h in
       subst (λ (i : ℕ). get_or cells (1 + l.most + i) 0 < n) (row_is M.shape row (row / 2 ^ M.shape.tracks) (row % 2 ^ M.shape.tracks) refl refl)
@@ -165,7 +166,7 @@ module _ (M : Automaton) (l : Layout) (lc lb : ℕ) (codes cells cls firsts : Li
       unused_inner = λ a m x y ha hm ux uy h. read (inner_address sh N a m x y) (address_lt sh N (at_inner a m x y) (ha, hm, ux, uy)) ∙ at_unused a m x y ha hm ux uy h;
     }
 
-    pub built : Built M l.most k c4
+    built : Built M l.most k c4
     built = record {
       table = T;
       right = table_right;
@@ -173,3 +174,54 @@ module _ (M : Automaton) (l : Layout) (lc lb : ℕ) (codes cells cls firsts : Li
       enough = λ many. omega (arith, d.room, too_many_found M (code_at codes) (index_table M l.most n codes cells) d.all l.most many);
       image = subst (λ (s : Shape). Image s l.most T (take (width s l.most) c4)) ready.shape image;
     }
+
+  -- the parts as they are written: the finals, the leaf cells, the inner cells
+  module _ (finals : List ℕ) (lent : lb ≤ length cells) (long2 : length finals ≡ length (lent_part 1 (1 + l.most) (set cells 0 k)))
+      (is2 : (s : ℕ) → s < length (lent_part 1 (1 + l.most) (set cells 0 k)) → get_or finals s 0 ≡ final_byte M codes firsts k s) where
+    abbrev with_finals : List ℕ
+    with_finals = put_mid 1 (1 + l.most - 1) (set cells 0 k) finals
+
+    finals_filled : Filled 1 l.most (final_byte M codes firsts k) (set cells 0 k) with_finals
+    finals_filled =
+        lent_filled 1 (1 + l.most) l.most (final_byte M codes firsts k) (set cells 0 k) finals (omega arith) (omega (arith, length-set cells 0 k, ready.cells_lent, lent)) long2 is2
+
+    finals_long : length with_finals ≡ length cells
+    finals_long = same_len_mid 1 (1 + l.most - 1) (set cells 0 k) finals long2 ∙ length-set cells 0 k
+
+    past : (j : ℕ) → 1 + l.most ≤ j → get_or with_finals j 0 ≡ get_or cells j 0
+    past j h = past_finals l.most k (final_byte M codes firsts k) cells with_finals finals_filled j h
+
+    module _ (rows : ℕ) (er : rows ≡ leaf_rows l.shape) where
+      abbrev old_leaves : List ℕ
+      old_leaves = lent_part (1 + l.most) (1 + l.most + rows) with_finals
+
+      room : 1 + l.most + rows ≤ length with_finals
+      room = omega (arith, er, finals_long, ready.cells_lent, lent)
+
+      pub leaves_indexed : (row : ℕ) → row < length old_leaves → get_or old_leaves row 0 < n
+      leaves_indexed row h =
+          let low : row < rows = omega (arith, h, part_long (1 + l.most) (1 + l.most + rows) rows with_finals refl room) in
+          omega (arith, part_reads (1 + l.most) (1 + l.most + rows) row with_finals (omega arith), past (1 + l.most + row) (omega arith), leaf_index row (omega (arith, low, er)))
+
+      module _ (leaves : List ℕ) (long3 : length leaves ≡ length old_leaves)
+          (is3 : (row : ℕ) → row < length old_leaves → get_or leaves row 0 ≡ class_at cls (get_or old_leaves row 0)) where
+        abbrev with_leaves : List ℕ
+        with_leaves = put_mid (1 + l.most) (1 + l.most + rows - (1 + l.most)) with_finals leaves
+
+        leaves_filled : Filled (1 + l.most) (leaf_rows l.shape) (leaf_byte l with_finals cls) with_finals with_leaves
+        leaves_filled =
+            filled_at er (lent_filled (1 + l.most) (1 + l.most + rows) rows (leaf_byte l with_finals cls) with_finals leaves refl room long3
+            (λ row h. is3 row h ∙ ap (class_at cls) (part_reads (1 + l.most) (1 + l.most + rows) row with_finals (omega (arith, h, part_long (1 + l.most) (1 + l.most + rows) rows with_finals refl room)))))
+
+        leaves_long : length with_leaves ≡ length cells
+        leaves_long = same_len_mid (1 + l.most) (1 + l.most + rows - (1 + l.most)) with_finals leaves long3 ∙ finals_long
+
+        pub inners_indexed : Indexed l n with_leaves
+        inners_indexed =
+            kept_indexed l n cells with_leaves (discovered_indexed M l lc lb codes cells n ready d lent) leaves_long
+            (λ j h. leaves_filled.outside j (inr h) ∙ past j (omega (arith, h)))
+
+        pub table_built : (c4 : List ℕ) → length c4 ≡ length with_leaves
+            → Filled (1 + l.most + leaf_rows l.shape) (inner_rows l.shape * (l.most * l.most)) (inner_byte l k with_leaves cls firsts) with_leaves c4 → Built M l.most k c4
+        table_built c4 long4 f4 =
+            built with_finals with_leaves c4 (omega (arith, lent, long4, leaves_long)) finals_filled leaves_filled f4 (omega (arith, lent, ready.cells_lent))

@@ -1,5 +1,4 @@
-pub mod Addresses
-pub mod Steps
+pub mod Questions
 pub mod Turns
 pub mod Ends
 pub mod Refinements
@@ -8,3 +7,4 @@ pub mod Firsts
 pub mod Sources
 pub mod Images
 pub mod Answering
+pub mod Tests

@@ -1,34 +1,21 @@
 -- Rounds over the cells are rounds over the table that they hold.
-use Rattle.std.proofs.Common.{◌≡◌, ℕ, ◌+◌, ◌-◌, ◌*◌, ◌/◌, ◌%◌, ◌^◌, ◌<◌, ◌≤◌, List, length, get_or, set, sym, refl, ap, ◌∙◌, subst, arith}
+use Rattle.std.proofs.Common.{◌≡◌, ℕ, ◌+◌, ◌-◌, ◌*◌, ◌/◌, ◌%◌, ◌^◌, ◌<◌, ◌≤◌, Bool, true, false, List, length, get_or, set, sym, refl, ap, ◌∙◌, subst, arith}
 use lib.Arith.{digits_div, digits_mod, digits_lt}
 use Rattle.std.proofs.lemmas.List.{get_or-set_same, get_or-set_other}
 use Rattle.trees.specs.declared.shape.Shape.{Shape}
 use Rattle.trees.specs.Shapes.{InnerLabel, Marks}
 use Rattle.automata.specs.Automata.{Automaton}
 use Rattle.automata.specs.Numbering.{at_inner}
-use Rattle.tables.specs.Images.{inner_address}
+use Rattle.tables.specs.Images.{inner_address, inner_rows}
 use Rattle.tables.specs.Rounds.{Agree, Numbering}
 use Rattle.tables.proofs.Numberings.{Equivalence}
-use Rattle.build.specs.Layouts.{inner_rows}
 use Rattle.build.specs.Discovery.{Ready, Discovered, index_table}
-use Rattle.build.specs.Refinement.{class_at, step_at, Indexed, StepIn, StepAgrees, StepsAgree, Agreed}
-use Rattle.build.specs.declared.layout.Layout.{Layout}
-use Rattle.build.proofs.Addresses.{address_lt}
-
-pub indexed_step : (l : Layout) (n k : ℕ) (cells : List ℕ) (a m x y : ℕ) → Indexed l n cells → n ≤ k → InnerLabel l.shape a → Marks l.shape m → x < n → y < n
-    → StepIn l cells k a m x y
-indexed_step l n k cells a m x y ix few ha hm hx hy = record {
-  fits = ix.fits;
-  label = ha;
-  marks = hm;
-  left = omega (arith, ix.room, ix.fits.few);
-  right = omega (arith, ix.room, ix.fits.few);
-  lent = omega (arith, ix.lent, address_lt l.shape l.most (at_inner a m x y) (ha, hm, omega (arith, ix.room), omega (arith, ix.room)));
-  inside = omega (arith, ix.inside a m x y ha hm hx hy);
-}
+use Rattle.build.specs.Refinement.{class_at, step_at, Indexed, StepAgrees, StepsAgree, Agreed, Tells}
+use Rattle.slots.specs.declared.layout.Layout.{Layout}
+use Rattle.build.proofs.Turns.{row_marks, row_inner}
 
 -- what agrees in every row agrees with every label and marks
-pub rows_agree : (l : Layout) (n : ℕ) (cells cls : List ℕ) (x y : ℕ)
+rows_agree : (l : Layout) (n : ℕ) (cells cls : List ℕ) (x y : ℕ)
     → ((row : ℕ) → row < inner_rows l.shape → StepAgrees l n cells cls (l.shape.leaves + row / 2 ^ l.shape.tracks) (row % 2 ^ l.shape.tracks) x y)
     → StepsAgree l n cells cls x y
 rows_agree l n cells cls x y rows a m ha hm =
@@ -40,21 +27,19 @@ rows_agree l n cells cls x y rows a m ha hm =
     (subst (λ (k : ℕ). StepAgrees l n cells cls (l.shape.leaves + ((a - l.shape.leaves) * 2 ^ l.shape.tracks + m) / 2 ^ l.shape.tracks) k x y) em
     (rows ((a - l.shape.leaves) * 2 ^ l.shape.tracks + m) (digits_lt nth hm)))
 
+-- every row agrees exactly if every label and marks do
+pub rows_tell : (l : Layout) (n : ℕ) (cells cls : List ℕ) (x y : ℕ) (r : Bool)
+    → Tells r ((row : ℕ) → row < inner_rows l.shape → StepAgrees l n cells cls (l.shape.leaves + row / 2 ^ l.shape.tracks) (row % 2 ^ l.shape.tracks) x y)
+    → Tells r (StepsAgree l n cells cls x y)
+rows_tell l n cells cls x y true rows = rows_agree l n cells cls x y rows
+rows_tell l n cells cls x y false rows = λ all. rows (λ row h. all _ _
+    (row_inner l.shape row (row / 2 ^ l.shape.tracks) (row % 2 ^ l.shape.tracks) refl refl h) (row_marks l.shape row (row / 2 ^ l.shape.tracks) (row % 2 ^ l.shape.tracks) refl refl))
+
 pub agreed_equivalence : (l : Layout) (n : ℕ) (cells cls : List ℕ) → Equivalence (Agreed l n cells cls)
 agreed_equivalence l n cells cls = record {
   same = λ x. (refl, λ a m h k z i. (refl, refl));
   turn = λ x y p. (sym p.0, λ a m h k z i. (sym (p.1 a m h k z i).0, sym (p.1 a m h k z i).1));
   join = λ x y z p q. (p.0 ∙ q.0, λ a m h k w i. ((p.1 a m h k w i).0 ∙ (q.1 a m h k w i).0, (p.1 a m h k w i).1 ∙ (q.1 a m h k w i).1));
-}
-
-pub numbering_same : (R : ℕ → ℕ → Type 0) (f g : ℕ → ℕ) (n k : ℕ) → ((x : ℕ) → x < n → g x ≡ f x) → Numbering R f n k → Numbering R g n k
-numbering_same R f g n k is nu = record {
-  few = nu.few;
-  below = λ x h. subst (λ (v : ℕ). v < k) (sym (is x h)) (nu.below x h);
-  first = λ s h.
-      let w = nu.first s h in
-      (w.0, w.1, is w.0 w.1 ∙ w.2, λ x l. subst (λ (v : ℕ). v < s) (sym (is x (omega (arith, w.1)))) (w.3 x l));
-  same = λ x y hx hy. ((λ e. (nu.same x y hx hy).0 (sym (is x hx) ∙ (e ∙ is y hy))), λ r. is x hx ∙ ((nu.same x y hx hy).1 r ∙ sym (is y hy)));
 }
 
 module _ (M : Automaton) (l : Layout) (lc lb : ℕ) (codes cells : List ℕ) (n : ℕ) (ready : Ready M l lc lb) (d : Discovered M l.most n codes cells) where
@@ -69,7 +54,6 @@ module _ (M : Automaton) (l : Layout) (lc lb : ℕ) (codes cells : List ℕ) (n 
 
   pub discovered_indexed : lb ≤ length cells → Indexed l n cells
   discovered_indexed lent = record {
-    fits = ready.fits;
     room = d.room;
     lent = omega (arith, ready.cells_lent);
     inside = λ a m x y h k hx hy. subst (λ (v : ℕ). v < n) (sym (step_is a m x y)) (d.all.inside (at_inner a m x y) (label_is a h, marks_is m k, hx, hy));
@@ -98,13 +82,20 @@ module _ (M : Automaton) (l : Layout) (lc lb : ℕ) (codes cells : List ℕ) (n 
       ),
     )
 
-    pub agreed_numbering : (f : ℕ → ℕ) (k : ℕ) → Numbering (Agreed l n cells cls) f n k → Numbering (Agree M (index_table M l.most n codes cells) (class_at cls)) f n k
+    agreed_numbering : (f : ℕ → ℕ) (k : ℕ) → Numbering (Agreed l n cells cls) f n k → Numbering (Agree M (index_table M l.most n codes cells) (class_at cls)) f n k
     agreed_numbering f k nu = record {
       few = nu.few;
       below = nu.below;
       first = nu.first;
       same = λ x y hx hy. ((λ e. agreed_agree x y ((nu.same x y hx hy).0 e)), λ p. (nu.same x y hx hy).1 (agree_agreed x y p));
     }
+
+    -- the classes after a round, which are kept as they are next
+    pub round_numbering : (next now : List ℕ) (m k : ℕ) → m ≡ n → now ≡ next → Numbering (Agreed l m cells cls) (class_at next) m k
+        → Numbering (Agree M (index_table M l.most n codes cells) (class_at cls)) (class_at now) n k
+    round_numbering next now m k e f nu =
+        agreed_numbering (class_at now) k (subst (λ (xs : List ℕ). Numbering (Agreed l n cells cls) (class_at xs) n k) (sym f)
+        (subst (λ (i : ℕ). Numbering (Agreed l i cells cls) (class_at next) i k) e nu))
 
 pub written_other : (xs ys : List ℕ) (i v : ℕ) → ys ≡ set xs i v → (x : ℕ) → x < i → class_at ys x ≡ class_at xs x
 written_other xs ys i v e x h = ap (λ (zs : List ℕ). get_or zs x 0) e ∙ get_or-set_other xs i x v 0 (λ z. omega (arith, z, h))

@@ -5,11 +5,11 @@ use Rattle.std.proofs.lemmas.Nat.{div-add-mod', div_below}
 use Rattle.std.proofs.lemmas.Bool.{ltb-true, and_parts}
 use Rattle.trees.specs.Shapes.{InnerLabel, Marks}
 use Rattle.automata.specs.Numbering.{at_inner}
-use Rattle.build.specs.Layouts.{leaf_rows, inner_rows}
+use Rattle.tables.specs.Images.{leaf_rows, inner_rows}
 use Rattle.build.specs.Refinement.{class_at, Indexed}
 use Rattle.build.specs.Imaging.{Firsts, of_states, source_at, inner_byte}
-use Rattle.build.specs.declared.layout.Layout.{Layout}
-use Rattle.build.proofs.Addresses.{address_lt}
+use Rattle.slots.specs.declared.layout.Layout.{Layout}
+use Rattle.tables.proofs.Questions.{address_lt}
 use Rattle.build.proofs.Turns.{row_marks, row_inner}
 use Rattle.build.proofs.Firsts.{first_ge}
 
@@ -45,7 +45,7 @@ module _ (l : Layout) (n k : ℕ) (cells cls firsts : List ℕ) (ix : Indexed l 
   hy = (both _ _ _ _ of).1
 
   row_in : j / (N * N) < inner_rows l.shape
-  row_in = div_below j (N * N) (inner_rows l.shape) (square_pos N ix.fits.some) hj
+  row_in = div_below j (N * N) (inner_rows l.shape) (square_pos N l.within.some) hj
 
   label_in : InnerLabel l.shape (l.shape.leaves + j / (N * N) / W)
   label_in = row_inner l.shape (j / (N * N)) (j / (N * N) / W) (j / (N * N) % W) refl refl row_in

@@ -17,10 +17,9 @@ use Rattle.automata.specs.Atoms.{one_if}
 use Rattle.automata.specs.Numbering.{Table}
 use Rattle.tables.specs.Tables.{TableOf, TooMany}
 use Rattle.tables.specs.Exploring.{code_at}
-use Rattle.tables.specs.Images.{width, inner_address, Image}
-use Rattle.build.specs.Layouts.{fits}
+use Rattle.tables.specs.Images.{width, inner_address, Image, fits}
 use Rattle.build.specs.Refinement.{class_at}
-use Rattle.build.specs.declared.layout.Layout.{Layout}
+use Rattle.slots.specs.declared.layout.Layout.{Layout}
 
 abbrev pub Appears : List ℕ → ℕ → ℕ → Type 0
 Appears cls n k = (s : ℕ) → s < k → (i : ℕ) × (i < n) × (class_at cls i ≡ s) × ((x : ℕ) → x < i → class_at cls x < s)

@@ -1,4 +1,3 @@
-pub mod Layouts
 pub mod Discovery
 pub mod Refinement
 pub mod Imaging

@@ -1,17 +1,21 @@
 // A machine's table, built in lent memory: its codes are discovered, refined into classes, and written as an image.
-ghost use Rattle.std.specs.Prelude.{◌≡◌, ◌*◌, ◌≤◌, true, false, length, MatchOption, MatchResult};
+ghost use Rattle.std.specs.Prelude.{◌≡◌, ◌*◌, ◌≤◌, length, replicate, IfOk, MatchResult};
 ghost use Rattle.tables.specs.Tables.{TooMany as TooManyCodes};
 ghost use Rattle.build.specs.Discovery.{Ready};
-ghost use Rattle.build.specs.Imaging.{serves, Built};
+ghost use Rattle.build.specs.Imaging.{Built};
+ghost use Rattle.build.specs.Building.{Leaves, Answers};
 
 use crate::discover::discover;
 use crate::found::TooMany;
-use crate::image::{find_firsts, put_table};
-use crate::layout::Layout;
+use crate::image::{States, find_firsts};
 use crate::refine::refine;
+use crate::unbuilt::Unbuilt;
+use lent::Cleared;
 use machine::Machine;
+use slots::Layout;
 
-pub(crate) fn build_in<M: Machine>(
+// Builds in the first cells, where the codes found are not too many.
+fn build_found<M: Machine>(
     machine: &M,
     layout: Layout,
     codes: &mut [u64],
@@ -23,34 +27,80 @@ pub(crate) fn build_in<M: Machine>(
     ensures { MatchResult result (λ k. Built (M.Machine.meaning machine.now) layout.most k cells.new) (λ _. TooManyCodes (M.Machine.meaning machine.now) layout.most) }
 {
     let len = discover(machine, layout, codes, cells)?;
-    let (classes, firsts) = classes.split_at_mut(layout.most);
-    let count = refine(machine, layout, len, codes, cells, classes, firsts);
-    find_firsts(len, count, classes, firsts);
-    put_table(machine, layout, len, count, codes, classes, firsts, cells);
+    let codes = &codes[..len];
+    let (classes, rest) = classes.split_at_mut(len);
+    let next = &mut rest[..len];
+    let count = refine(machine, layout, codes, cells, classes, next);
+    let firsts = &mut next[..usize::from(count)];
+    find_firsts(classes, firsts);
+    let states = States {
+        layout,
+        codes,
+        classes,
+        firsts,
+    };
+    states.put_table(machine, cells);
     Ok(count)
 }
 
-// Leaves the image of the machine's table in the first cells, and says how many states it has.
-// None where the shape is outside its limits, `most` is not 1 to 32, or too little memory is lent: `most` codes, the bytes
-// of the image, and two classes for each of `most` codes.
+// Builds in cells that are all the image's: where there are too many codes, what discovery wrote is cleared.
+fn build_image<M: Machine>(
+    machine: &M,
+    layout: Layout,
+    codes: &mut [u64],
+    cells: &mut [u8],
+    classes: &mut [u8],
+) -> Result<u8, Unbuilt>
+    requires ready { Ready (M.Machine.meaning machine.now) layout (length codes.old) (length cells.old) }
+    requires lent { 2 * layout.most ≤ length classes.old }
+    ensures { Leaves (M.Machine.meaning machine.now) layout.most (length cells.old) cells.new result }
+{
+    match build_found(machine, layout, codes, cells, classes) {
+        Ok(states) => Ok(states),
+        Err(TooMany) => {
+            cells.fill(0);
+            Err(Unbuilt::TooMany)
+        }
+    }
+}
+
+// Builds in the first cells, where the numbers and the memory serve.
+fn build_served<M: Machine>(
+    machine: &M,
+    most: usize,
+    codes: &mut [u64],
+    cells: &mut [u8],
+    classes: &mut [u8],
+) -> Result<u8, Unbuilt>
+    ensures { Answers (M.Machine.meaning machine.now) most (length codes.old) (length classes.old) cells.old cells.new result }
+{
+    let layout = Layout::new(machine.shape(), most).ok_or(Unbuilt::Unserved)?;
+    let width = layout.width();
+    if codes.len() < most || cells.len() < width || classes.len() < 2 * most {
+        return Err(Unbuilt::Unserved);
+    }
+    build_image(machine, layout, codes, &mut cells[..width], classes)
+}
+
+// Leaves the image of the machine's table in the first cells, and says how many states it has. Codes and classes end all
+// zeros, and on too many codes so do the image's cells; the other cells stay.
+// Unserved, with every cell as it was, where the shape is outside its limits, `most` is not 1 to 32, or too little memory is
+// lent: `most` codes, the bytes of the image, and two classes for each of `most` codes.
 pub fn build_table<M: Machine>(
     machine: &M,
     most: usize,
     codes: &mut [u64],
     cells: &mut [u8],
     classes: &mut [u8],
-) -> Option<Result<u8, TooMany>>
-    ensures { MatchOption result (serves (M.Machine.meaning machine.now) most (length codes.old) (length cells.old) (length classes.old) ≡ false) (λ b. (serves (M.Machine.meaning machine.now) most (length codes.old) (length cells.old) (length classes.old) ≡ true) × MatchResult b (λ k. Built (M.Machine.meaning machine.now) most k cells.new) (λ _. TooManyCodes (M.Machine.meaning machine.now) most)) }
+) -> Result<u8, Unbuilt>
+    ensures answer { Answers (M.Machine.meaning machine.now) most (length codes.old) (length classes.old) cells.old cells.new result }
+    ensures built { IfOk result (λ k. Built (M.Machine.meaning machine.now) most k cells.new) }
+    ensures codes { codes.new ≡ replicate (length codes.old) 0 }
+    ensures classes { classes.new ≡ replicate (length classes.old) 0 }
 {
-    let layout = Layout {
-        shape: machine.shape(),
-        most,
+    let found = Cleared { cells: &mut *codes };
+    let parted = Cleared {
+        cells: &mut *classes,
     };
-    if !layout.fits() {
-        return None;
-    }
-    if codes.len() < most || cells.len() < layout.width() || classes.len() < 2 * most {
-        return None;
-    }
-    Some(build_in(machine, layout, codes, cells, classes))
+    build_served(machine, most, found.cells, cells, parted.cells)
 }

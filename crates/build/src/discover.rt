@@ -4,59 +4,59 @@
 ghost use Rattle.std.specs.Prelude.{◌≡◌, ◌+◌, ◌*◌, ◌<◌, ◌≤◌, length, take, MatchResult};
 ghost use Rattle.automata.specs.Numbering.{pair_place};
 ghost use Rattle.tables.specs.Tables.{TooMany as TooManyCodes};
-ghost use Rattle.build.specs.Layouts.{leaf_rows, inner_rows};
-ghost use Rattle.build.specs.Discovery.{Sofar, Ready, Discovered};
+ghost use Rattle.tables.specs.Images.{leaf_rows, inner_rows};
+ghost use Rattle.build.specs.Discovery.{Kept, Discovering, Ready, Discovered};
 
-use crate::found::{TooMany, meet};
-use crate::layout::Layout;
+use crate::found::{Found, TooMany};
+use crate::steps::inner_step;
 use machine::Machine;
+use slots::Layout;
 
-// Asks every leaf step.
-fn ask_leaves<M: Machine>(
-    machine: &M,
-    layout: Layout,
-    codes: &mut [u64],
-    len: &mut usize,
-    cells: &mut [u8],
-) -> Result<(), TooMany>
-    requires ready { Ready (M.Machine.meaning machine.now) layout (length codes.old) (length cells.old) }
-    requires sofar { (Sofar (M.Machine.meaning machine.now) layout.most (take len.old codes.old) cells.old 0) × (len.old ≤ layout.most) }
-    ensures room { len.new ≤ layout.most }
-    ensures sofar { MatchResult result (λ _. Sofar (M.Machine.meaning machine.now) layout.most (take len.new codes.new) cells.new (leaf_rows layout.shape)) (λ _. TooManyCodes (M.Machine.meaning machine.now) layout.most) }
-{
-    for row in 0..layout.leaf_rows() {
-        let (label, marks) = layout.step(row);
-        let i = meet(codes, len, layout.most, machine.leaf(label, marks))?;
-        cells[layout.leaf_address(label, marks)] = i;
+impl Found<'_> {
+    // Asks every leaf step.
+    fn ask_leaves<M: Machine>(&mut self, machine: &M) -> Result<(), TooMany>
+        requires { Discovering (M.Machine.meaning machine.now) self.old 0 }
+        ensures kept { Kept self.old self.new }
+        ensures asked { MatchResult result (λ _. Discovering (M.Machine.meaning machine.now) self.new (leaf_rows self.old.layout.shape)) (λ _. TooManyCodes (M.Machine.meaning machine.now) self.old.layout.most) }
+    {
+        let layout = self.layout;
+        for row in 0..layout.leaf_rows() {
+            let (label, marks) = layout.step(row);
+            let code = machine.leaf(label, marks);
+            self.note(layout.leaf_address(label, marks), code)?;
+        }
+        Ok(())
     }
-    Ok(())
-}
 
-// Asks every inner step over one pair of codes found.
-fn ask_pair<M: Machine>(
-    machine: &M,
-    layout: Layout,
-    codes: &mut [u64],
-    len: &mut usize,
-    cells: &mut [u8],
-    x: usize,
-    y: usize,
-) -> Result<(), TooMany>
-    requires ready { Ready (M.Machine.meaning machine.now) layout (length codes.old) (length cells.old) }
-    requires sofar { (Sofar (M.Machine.meaning machine.now) layout.most (take len.old codes.old) cells.old (leaf_rows layout.shape + pair_place x y * inner_rows layout.shape)) × (len.old ≤ layout.most) }
-    requires over { (x < len.old) × (y < len.old) }
-    ensures room { len.new ≤ layout.most }
-    ensures grows { len.old ≤ len.new }
-    ensures sofar { MatchResult result (λ _. Sofar (M.Machine.meaning machine.now) layout.most (take len.new codes.new) cells.new (leaf_rows layout.shape + (pair_place x y + 1) * inner_rows layout.shape)) (λ _. TooManyCodes (M.Machine.meaning machine.now) layout.most) }
-{
-    for row in 0..layout.inner_rows() {
-        let (nth, marks) = layout.step(row);
-        let label = layout.shape.leaves + nth;
-        let code = machine.inner(label, marks, codes[x], codes[y]);
-        let i = meet(codes, len, layout.most, code)?;
-        cells[layout.inner_address(label, marks, x, y)] = i;
+    // Asks every inner step over one pair of codes found.
+    fn ask_pair<M: Machine>(&mut self, machine: &M, x: usize, y: usize) -> Result<(), TooMany>
+        requires sofar { Discovering (M.Machine.meaning machine.now) self.old (leaf_rows self.old.layout.shape + pair_place x y * inner_rows self.old.layout.shape) }
+        requires over { (x < self.old.len) × (y < self.old.len) }
+        ensures kept { Kept self.old self.new }
+        ensures asked { MatchResult result (λ _. Discovering (M.Machine.meaning machine.now) self.new (leaf_rows self.old.layout.shape + (pair_place x y + 1) * inner_rows self.old.layout.shape)) (λ _. TooManyCodes (M.Machine.meaning machine.now) self.old.layout.most) }
+    {
+        let layout = self.layout;
+        for row in 0..layout.inner_rows() {
+            let (label, marks) = inner_step(layout, row);
+            let code = machine.inner(label, marks, self.codes[x], self.codes[y]);
+            self.note(layout.inner_address(label, marks, x, y), code)?;
+        }
+        Ok(())
     }
-    Ok(())
+
+    // Asks every inner step over a code found and those before it.
+    fn ask_ring<M: Machine>(&mut self, machine: &M, ring: usize) -> Result<(), TooMany>
+        requires sofar { Discovering (M.Machine.meaning machine.now) self.old (leaf_rows self.old.layout.shape + ring * ring * inner_rows self.old.layout.shape) }
+        requires over { ring < self.old.len }
+        ensures kept { Kept self.old self.new }
+        ensures asked { MatchResult result (λ _. Discovering (M.Machine.meaning machine.now) self.new (leaf_rows self.old.layout.shape + (ring + 1) * (ring + 1) * inner_rows self.old.layout.shape)) (λ _. TooManyCodes (M.Machine.meaning machine.now) self.old.layout.most) }
+    {
+        for turn in 0..2 * ring + 1 {
+            let (x, y) = pair_at(ring, turn);
+            self.ask_pair(machine, x, y)?;
+        }
+        Ok(())
+    }
 }
 
 // The pair at a turn of a ring: those with the later code at the right, then those with it at the left alone.
@@ -72,29 +72,6 @@ fn pair_at(ring: usize, turn: usize) -> (usize, usize)
     }
 }
 
-// Asks every inner step over a code found and those before it.
-fn ask_ring<M: Machine>(
-    machine: &M,
-    layout: Layout,
-    codes: &mut [u64],
-    len: &mut usize,
-    cells: &mut [u8],
-    ring: usize,
-) -> Result<(), TooMany>
-    requires ready { Ready (M.Machine.meaning machine.now) layout (length codes.old) (length cells.old) }
-    requires sofar { (Sofar (M.Machine.meaning machine.now) layout.most (take len.old codes.old) cells.old (leaf_rows layout.shape + ring * ring * inner_rows layout.shape)) × (len.old ≤ layout.most) }
-    requires over { ring < len.old }
-    ensures room { len.new ≤ layout.most }
-    ensures grows { len.old ≤ len.new }
-    ensures sofar { MatchResult result (λ _. Sofar (M.Machine.meaning machine.now) layout.most (take len.new codes.new) cells.new (leaf_rows layout.shape + (ring + 1) * (ring + 1) * inner_rows layout.shape)) (λ _. TooManyCodes (M.Machine.meaning machine.now) layout.most) }
-{
-    for turn in 0..2 * ring + 1 {
-        let (x, y) = pair_at(ring, turn);
-        ask_pair(machine, layout, codes, len, cells, x, y)?;
-    }
-    Ok(())
-}
-
 // Finds every code that the machine reaches, and writes the index of each step's code at the step's address.
 pub(crate) fn discover<M: Machine>(
     machine: &M,
@@ -103,14 +80,20 @@ pub(crate) fn discover<M: Machine>(
     cells: &mut [u8],
 ) -> Result<usize, TooMany>
     requires ready { Ready (M.Machine.meaning machine.now) layout (length codes.old) (length cells.old) }
-    ensures { MatchResult result (λ len. Discovered (M.Machine.meaning machine.now) layout.most len codes.new cells.new) (λ _. TooManyCodes (M.Machine.meaning machine.now) layout.most) }
+    ensures { MatchResult result (λ len. Discovered (M.Machine.meaning machine.now) layout.most len (take len codes.new) cells.new) (λ _. TooManyCodes (M.Machine.meaning machine.now) layout.most) }
 {
-    let mut len = 0;
-    ask_leaves(machine, layout, codes, &mut len, cells)?;
+    let mut found = Found {
+        layout,
+        codes,
+        len: 0,
+        cells,
+    };
+    found.ask_leaves(machine)?;
     let mut ring = 0;
-    while ring < len {
-        ask_ring(machine, layout, codes, &mut len, cells, ring)?;
+    // a ring may find codes, so its end is not known before
+    while ring < found.len {
+        found.ask_ring(machine, ring)?;
         ring += 1;
     }
-    Ok(len)
+    Ok(found.len)
 }

@@ -1,124 +1,107 @@
 // The writing of the classes' table over the cells of the codes.
 // The cells are written in place and in ascending order: the first index of a class is at least the number of the class, so
 // what is read has not been written yet.
-ghost use Rattle.std.specs.Prelude.{◌≡◌, ℕ, ◌+◌, ◌*◌, ◌<◌, ◌≤◌, true, false, length, MatchOption, ◌≢◌, slice_index};
-ghost use Rattle.build.specs.Layouts.{leaf_rows, inner_rows, Fits};
+ghost use Rattle.std.specs.Prelude.{◌≡◌, ℕ, ◌+◌, ◌*◌, ◌<◌, ◌≤◌, true, false, length, MatchOption, slice_index};
+ghost use Rattle.tables.specs.Images.{leaf_rows, inner_rows};
 ghost use Rattle.build.specs.Discovery.{Ready, Discovered};
 ghost use Rattle.build.specs.Refinement.{class_at, Indexed, Classed};
 ghost use Rattle.build.specs.Imaging.{Appears, Firsts, Filled, final_byte, leaf_byte, inner_byte, of_states, source_at, Built};
 
-use crate::layout::Layout;
+use crate::steps::inner_step;
 use machine::Machine;
+use slots::Layout;
 
-// The first index of a class, or `len` where there is none.
-fn first_of(len: usize, classes: &[u8], s: u8) -> usize
-    requires { len ≤ length classes.now }
-    ensures within { result ≤ len }
-    ensures before { (x : ℕ) → x < result → class_at classes.now x ≢ s }
-    ensures found { result < len → class_at classes.now result ≡ s }
+// The first index of a class.
+fn first_of(classes: &[u8], class: u8) -> Option<usize>
+    ensures { MatchOption result ((x : ℕ) → x < length classes.now → class_at classes.now x ≡ class → ⊥) (λ i. (i < length classes.now) × (class_at classes.now i ≡ class) × ((x : ℕ) → x < i → class_at classes.now x ≡ class → ⊥)) }
 {
-    for x in 0..len {
-        if classes[x] == s {
-            return x;
-        }
-    }
-    len
+    classes.iter().position(|x| *x == class)
 }
 
 // The first index of each class.
-pub(crate) fn find_firsts(len: usize, count: u8, classes: &[u8], firsts: &mut [u8])
-    requires { (len ≤ length classes.now) × ((count ≤ length firsts.old) × ((len ≤ 32) × (Appears classes.now len count))) }
-    ensures { Firsts classes.now len count firsts.new }
+pub(crate) fn find_firsts(classes: &[u8], firsts: &mut [u8])
+    requires few { length classes.now ≤ 32 }
+    requires appears { Appears classes.now (length classes.now) (length firsts.old) }
+    ensures { Firsts classes.now (length classes.now) (length firsts.old) firsts.new }
 {
-    for s in 0..count {
-        firsts[s as usize] = first_of(len, classes, s) as u8;
+    for (s, first) in firsts.iter_mut().enumerate() {
+        *first = first_of(classes, s as u8).unwrap() as u8;
     }
 }
 
-// Whether each state is final.
-fn put_finals<M: Machine>(
-    machine: &M,
-    layout: Layout,
-    count: usize,
-    codes: &[u64],
-    firsts: &[u8],
-    cells: &mut [u8],
-)
-    requires { (Fits layout) × ((layout.most < length cells.old) × ((count ≤ length firsts.now) × (((s : ℕ) → s < count → slice_index firsts.now s < length codes.now)))) }
-    ensures { Filled 1 layout.most (final_byte (M.Machine.meaning machine.now) codes.now firsts.now count) cells.old cells.new }
-{
-    for s in 0..layout.most {
-        cells[1 + s] = (s < count && machine.is_final(codes[firsts[s] as usize])) as u8;
-    }
+// The states of a table: the codes found, the class of each, and the first index of each class.
+#[derive(Clone, Copy)]
+pub(crate) struct States<'a> {
+    pub(crate) layout: Layout,
+    pub(crate) codes: &'a [u64],
+    pub(crate) classes: &'a [u8],
+    pub(crate) firsts: &'a [u8],
+    pub(crate) ghost room: { length classes.now ≤ layout.most },
+    pub(crate) ghost of_codes: { length codes.now ≡ length classes.now },
+    pub(crate) ghost of_classes: { Firsts classes.now (length classes.now) (length firsts.now) firsts.now },
 }
 
-fn put_leaves(layout: Layout, classes: &[u8], cells: &mut [u8])
-    requires { (Fits layout) × ((1 + layout.most + leaf_rows layout.shape ≤ length cells.old) × (((row : ℕ) → row < leaf_rows layout.shape → slice_index cells.old (1 + layout.most + row) < length classes.now))) }
-    ensures { Filled (1 + layout.most) (leaf_rows layout.shape) (leaf_byte layout cells.old classes.now) cells.old cells.new }
-{
-    for row in 0..layout.leaf_rows() {
-        let at = 1 + layout.most + row;
-        cells[at] = classes[cells[at] as usize];
+impl States<'_> {
+    // Whether each state is final.
+    fn put_finals<M: Machine>(&self, machine: &M, finals: &mut [u8])
+        ensures { (s : ℕ) → s < length finals.old → slice_index finals.new s ≡ final_byte (M.Machine.meaning machine.now) self.now.codes.now self.now.firsts.now (length self.now.firsts.now) s }
+    {
+        for (s, cell) in finals.iter_mut().enumerate() {
+            let first = self.firsts.get(s);
+            let is_final = first.is_some_and(|x| machine.is_final(self.codes[usize::from(*x)]));
+            *cell = u8::from(is_final);
+        }
     }
-}
 
-// Where the cell of the first indices of an inner cell's states stands, or none where it is not of two states.
-fn source(layout: Layout, count: usize, firsts: &[u8], j: usize) -> Option<usize>
-    requires { (Fits layout) × ((j < inner_rows layout.shape * (layout.most * layout.most)) × ((count ≤ length firsts.now) × (((s : ℕ) → s < count → slice_index firsts.now s < 32)))) }
-    ensures { MatchOption result (of_states layout.most count j ≡ false) (λ i. (of_states layout.most count j ≡ true) × (i ≡ source_at layout firsts.now j)) }
-{
-    let n = layout.most;
-    let x = j / n % n;
-    let y = j % n;
-    if x < count && y < count {
-        let (nth, marks) = layout.step(j / (n * n));
-        let label = layout.shape.leaves + nth;
-        Some(layout.inner_address(label, marks, firsts[x] as usize, firsts[y] as usize))
-    } else {
-        None
+    fn put_leaves(&self, leaves: &mut [u8])
+        requires { (row : ℕ) → row < length leaves.old → slice_index leaves.old row < length self.now.classes.now }
+        ensures { (row : ℕ) → row < length leaves.old → slice_index leaves.new row ≡ class_at self.now.classes.now (slice_index leaves.old row) }
+    {
+        for cell in leaves.iter_mut() {
+            *cell = self.classes[usize::from(*cell)];
+        }
     }
-}
 
-fn put_inners(
-    layout: Layout,
-    len: usize,
-    count: usize,
-    classes: &[u8],
-    firsts: &[u8],
-    cells: &mut [u8],
-)
-    requires { (Indexed layout len cells.old) × ((len ≤ length classes.now) × ((count ≤ length firsts.now) × (Firsts classes.now len count firsts.now))) }
-    ensures { Filled (1 + layout.most + leaf_rows layout.shape) (inner_rows layout.shape * (layout.most * layout.most)) (inner_byte layout count cells.old classes.now firsts.now) cells.old cells.new }
-{
-    let start = 1 + layout.most + layout.leaf_rows();
-    for j in 0..layout.inner_rows() * (layout.most * layout.most) {
-        cells[start + j] = match source(layout, count, firsts, j) {
-            Some(from) => classes[cells[from] as usize],
-            None => 0,
-        };
+    // Where the cell of the first indices of an inner cell's states stands, or none where it is not of two states.
+    fn source(&self, j: usize) -> Option<usize>
+        requires { j < inner_rows self.now.layout.shape * (self.now.layout.most * self.now.layout.most) }
+        ensures { MatchOption result (of_states self.now.layout.most (length self.now.firsts.now) j ≡ false) (λ i. (of_states self.now.layout.most (length self.now.firsts.now) j ≡ true) × (i ≡ source_at self.now.layout self.now.firsts.now j)) }
+    {
+        let n = self.layout.most;
+        let left = *self.firsts.get(j / n % n)?;
+        let right = *self.firsts.get(j % n)?;
+        let (label, marks) = inner_step(self.layout, j / (n * n));
+        Some(
+            self.layout
+                .inner_address(label, marks, usize::from(left), usize::from(right)),
+        )
     }
-}
 
-// Makes the cells over indices of codes those over states, with what stands before them.
-pub(crate) fn put_table<M: Machine>(
-    machine: &M,
-    layout: Layout,
-    len: usize,
-    count: u8,
-    codes: &[u64],
-    classes: &[u8],
-    firsts: &[u8],
-    cells: &mut [u8],
-)
-    requires ready { Ready (M.Machine.meaning machine.now) layout (length codes.now) (length cells.old) }
-    requires discovered { Discovered (M.Machine.meaning machine.now) layout.most len codes.now cells.old }
-    requires classed { Classed (M.Machine.meaning machine.now) codes.now classes.now len count }
-    requires firsts { Firsts classes.now len count firsts.now }
-    requires lent { (layout.most ≤ length classes.now) × (layout.most ≤ length firsts.now) }
-    ensures { Built (M.Machine.meaning machine.now) layout.most count cells.new }
-{
-    cells[0] = count;
-    put_finals(machine, layout, count as usize, codes, firsts, cells);
-    put_leaves(layout, classes, cells);
-    put_inners(layout, len, count as usize, classes, firsts, cells);
+    fn put_inners(&self, cells: &mut [u8])
+        requires { Indexed self.now.layout (length self.now.classes.now) cells.old }
+        ensures { Filled (1 + self.now.layout.most + leaf_rows self.now.layout.shape) (inner_rows self.now.layout.shape * (self.now.layout.most * self.now.layout.most)) (inner_byte self.now.layout (length self.now.firsts.now) cells.old self.now.classes.now self.now.firsts.now) cells.old cells.new }
+    {
+        let start = 1 + self.layout.most + self.layout.leaf_rows();
+        for j in 0..self.layout.inner_rows() * (self.layout.most * self.layout.most) {
+            cells[start + j] = match self.source(j) {
+                Some(from) => self.classes[usize::from(cells[from])],
+                None => 0,
+            };
+        }
+    }
+
+    // Makes the cells over indices of codes those over states, with what stands before them.
+    pub(crate) fn put_table<M: Machine>(&self, machine: &M, cells: &mut [u8])
+        requires ready { Ready (M.Machine.meaning machine.now) self.now.layout self.now.layout.most (length cells.old) }
+        requires discovered { Discovered (M.Machine.meaning machine.now) self.now.layout.most (length self.now.classes.now) self.now.codes.now cells.old }
+        requires classed { Classed (M.Machine.meaning machine.now) self.now.codes.now self.now.classes.now (length self.now.classes.now) (length self.now.firsts.now) }
+        ensures { Built (M.Machine.meaning machine.now) self.now.layout.most (length self.now.firsts.now) cells.new }
+    {
+        cells[0] = self.firsts.len() as u8;
+        let leaves = 1 + self.layout.most;
+        let inners = leaves + self.layout.leaf_rows();
+        self.put_finals(machine, &mut cells[1..leaves]);
+        self.put_leaves(&mut cells[leaves..inners]);
+        self.put_inners(cells);
+    }
 }

@@ -2,13 +2,12 @@
 #![tactic(auto)]
 
 mod building;
-mod clearing;
 mod discover;
 mod found;
 mod image;
-mod layout;
 mod refine;
+mod steps;
+mod unbuilt;
 
 pub use building::build_table;
-pub use clearing::{Build, build_cleared};
-pub use found::TooMany;
+pub use unbuilt::Unbuilt;
