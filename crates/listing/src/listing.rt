@@ -13,6 +13,7 @@ pub enum Unwritten {
 
 // Writes the text of the table that the image is, whatever its bytes are, at the front of the buffer, and answers its length.
 // The length is counted first, so that a buffer too short is left as it was.
+#[tactic(auto, using(crate::proofs::Texts::slot_tells))]
 pub fn list_table(
     shape: Shape,
     most: usize,

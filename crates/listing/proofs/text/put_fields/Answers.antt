@@ -1,12 +1,9 @@
 -- One field more.
 use Rattle.std.proofs.Common.{ℕ, List, [], ◌∷◌, map, get_or, take, decimal, sym, ap, ◌∙◌, arith}
-use Rattle.std.proofs.lemmas.List.{take_more, take_all, map-append}
+use Rattle.std.proofs.lemmas.List.{take_more, map-append}
 use Rattle.tables.specs.Texts.{fields}
-use Rattle.listing.proofs.Takings.{takes_is, takes_none, takes_field}
+use Rattle.listing.proofs.Takings.{takes_is, takes_field}
 use Rattle.listing.proofs.text.put_fields.Goals as goal
-
-pub loop-byte-init : goal.loop-byte-init
-loop-byte-init g c of is = takes_none
 
 pub loop-byte-preserved : goal.loop-byte-preserved
 loop-byte-preserved g c of is =
@@ -16,7 +13,3 @@ loop-byte-preserved g c of is =
     takes_is (ap fields (sym (ap (map of) more ∙ map-append of before (b ∷ []))))
     (takes_field (map of before) (of b) (c.loop-byte.invariant of is)
     (takes_is (ap (λ (n : ℕ). 44 ∷ decimal n) (is b c.number.result (search arith) c.number.ensures)) c.put_field.ensures))
-
-pub returns : goal.returns
-returns g c of is =
-    takes_is (ap (λ (bs : List ℕ). fields (map of bs)) (take_all c.loop-byte.byte-index c.args.bytes.now (omega arith))) (c.loop-byte.invariant of is)

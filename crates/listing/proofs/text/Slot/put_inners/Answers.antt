@@ -2,14 +2,8 @@
 use Rattle.std.proofs.Common.{◌≡◌, ℕ, ◌+◌, ◌-◌, ap, arith}
 use Rattle.tables.specs.Texts.{over}
 use Rattle.listing.specs.Rows.{read, marks_text}
-use Rattle.listing.proofs.Takings.{takes_is, takes_none, takes_over}
+use Rattle.listing.proofs.Takings.{takes_is, takes_over}
 use Rattle.listing.proofs.text.Slot.put_inners.Goals as goal
-
-pub loop-label-init : goal.loop-label-init
-loop-label-init g c =
-    let sh = c.args.self.now.layout.shape in
-    let e : 0 ≡ sh.leaves - sh.leaves = omega arith in
-    takes_is (ap (λ (n : ℕ). over sh.leaves n (marks_text sh (read c.args.self.now))) e) takes_none
 
 pub loop-label-preserved : goal.loop-label-preserved
 loop-label-preserved g c =
@@ -18,9 +12,3 @@ loop-label-preserved g c =
     takes_is (ap (λ (n : ℕ). over sh.leaves n (marks_text sh (read c.args.self.now))) e)
     (takes_over (marks_text sh (read c.args.self.now)) sh.leaves (c.loop-label.label - sh.leaves) c.loop-label.label (omega arith)
     c.loop-label.invariant c.put_label.ensures)
-
-pub returns : goal.returns
-returns g c =
-    let sh = c.args.self.now.layout.shape in
-    let e : c.loop-label.label - sh.leaves ≡ sh.inners = omega arith in
-    takes_is (ap (λ (n : ℕ). over sh.leaves n (marks_text sh (read c.args.self.now))) e) c.loop-label.invariant
