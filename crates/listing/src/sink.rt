@@ -2,6 +2,8 @@
 ghost use Rattle.std.specs.Prelude.{◌≡◌, ℕ, List, [], ◌∷◌};
 ghost use Rattle.listing.specs.Sinks.{Takes, Counted, Pasted};
 
+// In the place of `fmt::Write`: by its contract `write!` says what it wrote where it ends well, and not that it does, while
+// a listing is always counted and written.
 pub(crate) trait Sink {
     // what it is for the second, which began as the first, to have taken these bytes
     ghost took: { Self → Self → List ℕ → Type 0 };

@@ -15,7 +15,7 @@ const TWO_DIGITS: u8 = 10;
 // The least number with three digits.
 const THREE_DIGITS: u8 = 100;
 
-// A comma and the number in decimal.
+// A comma and the number in decimal, digit by digit, as a sink takes no `write!`.
 fn put_field<S: Sink>(sink: &mut S, number: u8)
     ensures { Takes S.Sink.took sink.old sink.new (44 ∷ decimal number) }
 {
@@ -139,6 +139,7 @@ impl<'a> Slot<'a> {
     }
 
     // The lines I of a label and marks.
+    #[tactic(auto, using(crate::proofs::Takings::takes_over))]
     fn put_lefts<S: Sink>(&self, sink: &mut S, label: u8, marks: u8)
         requires label { InnerLabel self.now.layout.shape label }
         requires marks { Marks self.now.layout.shape marks }
@@ -150,6 +151,7 @@ impl<'a> Slot<'a> {
     }
 
     // The lines I of a label.
+    #[tactic(auto, using(crate::proofs::Takings::takes_over))]
     fn put_label<S: Sink>(&self, sink: &mut S, label: u8)
         requires { InnerLabel self.now.layout.shape label }
         ensures { Takes S.Sink.took sink.old sink.new (marks_text self.now.layout.shape (read self.now) label) }
@@ -169,6 +171,7 @@ impl<'a> Slot<'a> {
         }
     }
 
+    #[tactic(auto, using(crate::proofs::Takings::takes_then))]
     fn put_text<S: Sink>(&self, sink: &mut S)
         ensures { Takes S.Sink.took sink.old sink.new (text self.now) }
     {

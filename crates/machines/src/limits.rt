@@ -12,6 +12,7 @@ pub trait Limits {
     // the test
     ghost serves: { Shape → ℕ → Bool };
 
+    // codes stay few, as a lawful machine's must
     ghost few: { (sh : Shape) (N : ℕ) → serves sh N ≡ true → N ≤ 32 };
 
     // Where the cells stand, or none where the table answers nothing.
