@@ -2,7 +2,7 @@
 -- Words:
 --   word, rest    what stands before and after the first blank of a text
 --   Says          what a line says that is read as this command, by how the program reads names of rules and words of its own
-use Rattle.std.specs.Prelude.{◌≡◌, ◌≢◌, ℕ, ◌*◌, ◌≤◌, ◌==◌, List, [], length, codes, Option, Some, None, Ok, Result}
+use Rattle.std.specs.Prelude.{◌≡◌, ◌≢◌, ℕ, ◌*◌, ◌≤◌, ◌==◌, List, [], length, codes, Option, Some, None, Ok, Err, Result}
 use Rattle.std.specs.List.{before_first, after_first}
 use Rattle.std.specs.Str.{trim}
 use Rattle.trees.specs.Shapes.{Limited}
@@ -20,6 +20,10 @@ rest text = after_first (λ b. b == 32) text
 abbrev pub Names : {R : Type 0} → (List ℕ → Result R Fault → Type 0) → List ℕ → Option R → Type 0
 Names rule text None = trim text ≡ codes "none"
 Names rule text (Some r) = (trim text ≢ codes "none") × rule (trim text) (Ok r)
+
+-- it names neither
+abbrev pub Unnamed : {R : Type 0} → (List ℕ → Result R Fault → Type 0) → List ℕ → Fault → Type 0
+Unnamed rule text fault = (trim text ≢ codes "none") × rule (trim text) (Err fault)
 
 -- of a line with no blank at its ends
 abbrev pub Says : {R W : Type 0} → (List ℕ → Result R Fault → Type 0) → (List ℕ → Result W Fault → Type 0) → List ℕ → Command R W → Type 0

@@ -1,8 +1,8 @@
 // A line of input: a word, then what the word takes.
-ghost use Rattle.std.specs.Prelude.{◌≡◌, ◌≢◌, ◌*◌, ◌≤◌, [], length, codes, Ok, IfOk, IfErr};
+ghost use Rattle.std.specs.Prelude.{◌≡◌, ◌*◌, ◌≤◌, [], length, codes, Ok, IfOk, IfErr};
 ghost use Rattle.std.specs.Str.{trim};
 ghost use Rattle.trees.specs.Shapes.{Limited};
-ghost use Rattle.console.specs.Lines.{word, rest, Names, Says};
+ghost use Rattle.console.specs.Lines.{word, rest, Names, Unnamed, Says};
 
 use crate::fault::Fault;
 use crate::numbers::numbers;
@@ -41,7 +41,7 @@ fn places(heap: Global, text: &str) -> Result<usize, Fault>
 
 fn rule<R: FromStr<Err = Fault>>(text: &str) -> Result<Option<R>, Fault>
     ensures names { IfOk result (Names R.from_str_gives text.now) }
-    ensures unknown { IfErr result (λ e. (trim text.now ≢ codes "none") × R.from_str_gives (trim text.now) (Err e)) }
+    ensures unnamed { IfErr result (Unnamed R.from_str_gives text.now) }
 {
     match text.trim() {
         "none" => Ok(None),
@@ -81,7 +81,7 @@ pub fn read_line<R: FromStr<Err = Fault>, W: FromStr<Err = Fault> + Drop>(
 ) -> Result<Command<R, W>, Fault>
     ensures says { IfOk result (Says R.from_str_gives W.from_str_gives (trim line.now)) }
     ensures blank { trim line.now ≡ [] → result ≡ Ok Command.Nothing }
-    ensures rule { word (trim line.now) ≡ codes "rule" → IfErr result (λ e. R.from_str_gives (trim (rest (trim line.now))) (Err e)) }
+    ensures rule { word (trim line.now) ≡ codes "rule" → IfErr result (Unnamed R.from_str_gives (rest (trim line.now))) }
 {
     let line = line.trim();
     if line.is_empty() {
