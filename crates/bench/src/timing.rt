@@ -10,6 +10,7 @@ use std::time::{Duration, Instant};
 pub struct Bench<'a> {
     pub rt: &'a HostRuntime,
     pub layout: Layout,
+    // the program's argument `times`
     pub timed: bool,
 }
 

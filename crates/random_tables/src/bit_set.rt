@@ -1,4 +1,5 @@
-// Sets of numbers below 64: a number is a member where its bit is set.
+// Sets of numbers below 64: a number is a member where its bit is set. They are copied and compared at every step, where a
+// `BTreeSet` would be made anew.
 ghost use Rattle.std.specs.Iterator.{at_most};
 
 use std::ops::{BitOr, BitOrAssign};
@@ -17,8 +18,8 @@ impl BitSet {
         }
     }
 
-    pub fn len(self) -> u32 {
-        self.bits.count_ones()
+    pub fn len(self) -> usize {
+        self.bits.count_ones() as usize
     }
 
     pub fn is_within(self, other: BitSet) -> bool {

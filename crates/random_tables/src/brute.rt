@@ -258,7 +258,7 @@ impl<M: Machine> Classes<'_, '_, M> {
 #[derive(Drop)]
 pub struct Brute {
     pub image: Vec<u8>,
-    pub codes: u32,
+    pub codes: usize,
 }
 
 // The image of the machine's table and how many codes it reaches, or none where those are more than `most`.
@@ -270,7 +270,7 @@ pub fn image_of<M: Machine>(
     let steps = Steps::new(alloc, machine)?;
     let known = steps.reached();
     let codes = known.len();
-    if codes as usize > most {
+    if codes > most {
         return Ok(None);
     }
     let mut classes = Classes {

@@ -129,9 +129,9 @@ pub struct Tally {
 }
 
 impl Tally {
-    fn count_states(&mut self, states: u8, codes: u32) {
+    fn count_states(&mut self, states: u8, codes: usize) {
         self.states[usize::from(states % 13)] += 1;
-        if u32::from(states) < codes {
+        if usize::from(states) < codes {
             self.merged += 1;
         }
     }

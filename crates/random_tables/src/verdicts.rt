@@ -40,6 +40,7 @@ impl Rules {
         Ok(build(self.alloc, machine, Layout::MOST_STATES)??)
     }
 
+    // Each atom's machine has a type of its own, so there is an arm for each.
     fn build_atom(&self, atom: Atom) -> Result<Image, Fault> {
         match atom {
             Atom::Sub(i, j) => self.build(&Sub::new(self.shape, i, j)?),
