@@ -1,5 +1,5 @@
 -- The ends of a call that fills a slot.
-use Rattle.std.proofs.Common.{◌≡◌, ℕ, ◌+◌, ◌≤◌, Bool, List, [], ◌∷◌, ◌++◌, length, take, drop, IsErrAnd, None, Ok, Err, Option, Result, sym, refl, ap, ◌∙◌, subst, ap₂, inl, inr, arith}
+use Rattle.std.proofs.Common.{◌≡◌, ℕ, ◌+◌, Bool, List, ◌++◌, take, drop, IsErrAnd, None, Ok, Err, Result, sym, refl, ◌∙◌, subst, ap₂, inl, inr, arith}
 use Rattle.trees.specs.declared.refusal.Refusal.{Refusal}
 use Rattle.automata.specs.Automata.{Automaton}
 use Rattle.automata.specs.Rules.{Atom}
@@ -17,7 +17,8 @@ use Rattle.store.specs.declared.slot.Slots.{Slots}
 use Rattle.store.specs.declared.slot.Slot.{Slot}
 use Rattle.store.specs.declared.slot.Place.{Place}
 use Rattle.store.specs.Checks.{IsSlots, IsSlot, put_place}
-use Rattle.store.proofs.Exits.{handed}
+use Rattle.store.proofs.Exits.{handed_on}
+use Rattle.store.proofs.Moving.{moved}
 use Rattle.filling.specs.Fillings.{Makes, MakesAtom, Fills}
 
 -- the build of the table that the call writes
@@ -51,31 +52,21 @@ pub atom_made : (s : Slot) (A : Atom) (M : Automaton) → M ≡ atom_automaton s
 atom_made s A M is free l cells (Ok p) m = (free, subst (λ (a : Automaton). Makes s a l cells (Ok p)) is m)
 atom_made s A M is free l cells (Err e) m = inr (free, subst (λ (a : Automaton). Makes s a l cells (Err e)) is m)
 
-module _ (R : Rack) (store : List ℕ) (v : Slots) (in_store : IsSlots R store v) where
-  pub pair_at : (op : Bool → Bool → Bool) (x y : ℕ) (M : Automaton) → M ≡ pair_layer op (slot_machine v.rack v.store.now x) (slot_machine v.rack v.store.now y)
-      → M ≡ pair_layer op (slot_machine R store x) (slot_machine R store y)
-  pair_at op x y M e = e ∙ ap₂ (λ (R : Rack) (xs : List ℕ). pair_layer op (slot_machine R xs x) (slot_machine R xs y)) in_store.rack in_store.store_is
+-- a pair of these slots' automata
+pub pair_at : {R : Rack} {store : List ℕ} {v : Slots} → IsSlots R store v → (op : Bool → Bool → Bool) (x y : ℕ) (M : Automaton)
+    → M ≡ pair_layer op (slot_machine v.rack v.store.now x) (slot_machine v.rack v.store.now y) → M ≡ pair_layer op (slot_machine R store x) (slot_machine R store y)
+pair_at here op x y M e = e ∙ ap₂ (λ (R : Rack) (xs : List ℕ). pair_layer op (slot_machine R xs x) (slot_machine R xs y)) here.rack here.store_is
 
-  -- a slot of these
-  module _ (k : ℕ) (s : Slot) (is : IsSlot v.rack v.store.now k s) where
-    moved : (P : Rack → List ℕ → ℕ → Type 0) → P s.slots.rack s.slots.store.now s.number → P R store k
-    moved P p =
-        subst (λ (R : Rack). P R store k) (is.slots.rack ∙ in_store.rack)
-        (subst (λ (xs : List ℕ). P s.slots.rack xs k) (is.slots.store_is ∙ in_store.store_is)
-        (subst (λ (n : ℕ). P s.slots.rack s.slots.store.now n) is.number p))
-
-    pub machine_at : (M : Automaton) → M ≡ slot_machine s.slots.rack s.slots.store.now s.number → M ≡ slot_machine R store k
-    machine_at M e = moved (λ R xs n. M ≡ slot_machine R xs n) e
-
-    pub fills : (c : Call) (M M' : Automaton) → M' ≡ M → (l : Lent) (cells : List ℕ) (r : Result Place Refusal) → write R store c ≡ table k M
-        → due R store c ≡ check_lent R l → Makes s M' l cells r → Fills R store k c cells r
-    fills c M M' is l cells r w d m =
-        moved (λ R xs n. write R xs c ≡ table n M → due R xs c ≡ check_lent R l → Fills R xs n c cells r) (λ w d. at_slot s c M M' is l cells r w d m) w d
+-- the build for the result slot
+pub fills : {R : Rack} {store : List ℕ} {k : ℕ} {s : Slot} → IsSlot R store k s → (c : Call) (M M' : Automaton) → M' ≡ M → (l : Lent) (cells : List ℕ)
+    (r : Result Place Refusal) → write R store c ≡ table k M → due R store c ≡ check_lent R l → Makes s M' l cells r → Fills R store k c cells r
+fills {R} {store} {k} {s} here c M M' is l cells r w d m =
+    moved here (λ R xs n. write R xs c ≡ table n M → due R xs c ≡ check_lent R l → Fills R xs n c cells r) (λ w d. at_slot s c M M' is l cells r w d m) w d
 
 module _ (R : Rack) (store : List ℕ) (k : ℕ) (c : Call) where
   -- a refusal that `?` hands on
   pub denied : (r : Result (Unit {0}) Refusal) (e : Refusal) → IsErrAnd r (λ y. y ≡ e) → Effect R store c (refused e) → Done R c store store (filled_by r store)
-  denied r e by x = subst (λ (r : Result (Unit {0}) Refusal). Done R c store store (filled_by r store)) (sym (handed r e by)) (done R c store store (refused e) x refl)
+  denied r e by x = handed_on R store c (λ r. filled_by r store) (λ e. refl) r e by (done R c store store (refused e) x refl)
 
   -- the bytes are in their slot
   pub placed : (p : Place) (cells after : List ℕ) → Fills R store k c cells (Ok p) → after ≡ put_place p (take p.width cells) store → Done R c store after (filled after)

@@ -1,7 +1,7 @@
 -- The layers over slots: a product is always made, and Some is refused for its track alone.
-use Rattle.std.proofs.Common.{◌≡◌, ℕ, ◌*◌, ◌^◌, ◌≤◌, Bool, true, false, eqb, ltb, List, Some, None, Ok, Err, Option, Result, sym, refl, ap, ◌∙◌, ap₂, arith, lit≤, MatchResult}
+use Rattle.std.proofs.Common.{◌≡◌, ℕ, ◌*◌, ◌^◌, ◌≤◌, Bool, true, false, ltb, List, Some, None, Ok, Err, Option, Result, sym, refl, ap, ◌∙◌, ap₂, arith, lit≤, MatchResult}
 use Rattle.std.proofs.lemmas.Nat.{mul-le}
-use Rattle.std.proofs.lemmas.Bool.{le-leb, and_from, and_parts, eq-eqb, eqb-true}
+use Rattle.std.proofs.lemmas.Bool.{le-leb, and_from, eq-eqb}
 use Rattle.trees.specs.declared.shape.Shape.{Shape}
 use Rattle.trees.specs.declared.refusal.Reason.TheVariants.{NoSuchTrack, ShapesDiffer, CountTooLarge}
 use Rattle.trees.specs.declared.refusal.Refusal.{Refusal}
@@ -24,16 +24,6 @@ few R store k = slot_few R.shape R.most (slot R store k)
 
 one_shape : (sh : Shape) → same_shape sh sh ≡ true
 one_shape sh = and_from _ _ (eq-eqb sh.leaves sh.leaves refl) (and_from _ _ (eq-eqb sh.inners sh.inners refl) (eq-eqb sh.tracks sh.tracks refl))
-
--- shapes that the test finds the same
-pub shapes_same : (x y : Shape) → same_shape x y ≡ true → x ≡ y
-shapes_same x y e =
-    let p = and_parts (eqb x.leaves y.leaves) _ e in
-    let q = and_parts (eqb x.inners y.inners) _ p.1 in
-    let a = eqb-true x.leaves y.leaves p.0 in
-    let b = eqb-true x.inners y.inners q.0 in
-    let c = eqb-true x.tracks y.tracks q.1 in
-    λ i. record { leaves = a i; inners = b i; tracks = c i }
 
 pair_few : (R : Rack) (store : List ℕ) (x y : ℕ) → pair_fits (slot_machine R store x) (slot_machine R store y) ≡ true
 pair_few R store x y =
@@ -59,10 +49,6 @@ no_track = refusal NoSuchTrack
 some_due : (R : Rack) (store : List ℕ) (x i : ℕ) → some_refusal i (slot_machine R store x) ≡ check (ltb i R.shape.tracks) no_track None
 some_due R store x i = ap (λ (b : Bool). check (ltb i R.shape.tracks) no_track (check b (refusal CountTooLarge) None)) (le-leb _ _ (few R store x))
 
-stopped : (b : Bool) (x e : Refusal) (rest : Option Refusal) → check b x None ≡ Some e → check b x rest ≡ Some e
-stopped true x e rest h = no_refusal None e refl h
-stopped false x e rest h = h
-
 passed : (b : Bool) (x : Refusal) (rest : Option Refusal) → check b x None ≡ None → check b x rest ≡ rest
 passed true x rest h = refl
 passed false x rest h = no_refusal None x refl (sym h)
@@ -70,9 +56,6 @@ passed false x rest h = no_refusal None x refl (sym h)
 module _ (R : Rack) (store : List ℕ) (x i : ℕ) (M : Automaton) (is : M ≡ slot_machine R store x) where
   due_is : some_refusal i M ≡ check (ltb i R.shape.tracks) no_track None
   due_is = ap (some_refusal i) is ∙ some_due R store x i
-
-  pub track_refused : (e : Refusal) (rest : Option Refusal) → some_refusal i M ≡ Some e → check (ltb i R.shape.tracks) no_track rest ≡ Some e
-  track_refused e rest h = stopped _ _ _ rest (sym due_is ∙ h)
 
   pub track_passed : (rest : Option Refusal) → some_refusal i M ≡ None → check (ltb i R.shape.tracks) no_track rest ≡ rest
   track_passed rest h = passed _ _ rest (sym due_is ∙ h)

@@ -9,7 +9,7 @@
 --   Fills R store k c cells r    what the build of call c answers: a refusal that is its effect, or where slot k is, and it is the effect of c that the first
 --                             cells be put there
 --   CallsPair op call         the call writes the table of two slots' automata joined by op, after the checks of a call with two sources
-use Rattle.std.specs.Prelude.{◌≡◌, ℕ, ◌+◌, ◌*◌, ◌≤◌, Bool, ◌⊎◌, List, [], ◌∷◌, length, take, Some, None, Ok, Err, Option, Result}
+use Rattle.std.specs.Prelude.{◌≡◌, ℕ, ◌+◌, ◌*◌, ◌≤◌, Bool, ◌⊎◌, List, [], ◌∷◌, length, take, Some, None, Ok, Err, Result}
 use Rattle.trees.specs.declared.refusal.Reason.TheVariants.{TooManyStates}
 use Rattle.trees.specs.declared.refusal.Refusal.{Refusal}
 use Rattle.automata.specs.Automata.{Automaton}

@@ -59,19 +59,19 @@ impl Filling for Complement {
 pub(crate) trait Joining: Connective + Copy {
     ghost call: { ℕ → ℕ → ℕ → Lent → Call };
 
-    ghost joins: { CallsPair Self.op call };
+    ghost makes: { CallsPair Self.op call };
 }
 
 impl Joining for And {
     ghost call = { call_both };
 
-    ghost joins = { record { write = λ R store k x y l. refl; due = λ R store k x y l. refl } };
+    ghost makes = { record { write = λ R store k x y l. refl; due = λ R store k x y l. refl } };
 }
 
 impl Joining for Or {
     ghost call = { call_either };
 
-    ghost joins = { record { write = λ R store k x y l. refl; due = λ R store k x y l. refl } };
+    ghost makes = { record { write = λ R store k x y l. refl; due = λ R store k x y l. refl } };
 }
 
 // Two slots' tables side by side.

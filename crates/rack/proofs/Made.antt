@@ -1,17 +1,17 @@
 -- A rack that is made is kept under the empty log.
-use Rattle.std.proofs.Common.{◌≡◌, ℕ, ◌*◌, Bool, true, false, cond, List, [], ◌++◌, length, take, drop, replicate, IsErrAnd, Some, None, Ok, Option, Result, sym, refl, ap, ◌∙◌, subst, ap₂, arith}
+use Rattle.std.proofs.Common.{◌≡◌, ℕ, ◌*◌, ◌≤◌, Bool, true, false, cond, List, [], ◌++◌, length, take, drop, replicate, Some, None, Ok, Option, sym, refl, ap, ◌∙◌, subst, ap₂, arith}
 use lib.ListN.{length-replicate}
 use Rattle.std.proofs.lemmas.List.{take-append-le, take_all, length-take-le}
 use Rattle.trees.specs.declared.shape.Shape.{Shape}
 use Rattle.trees.specs.declared.refusal.Refusal.{Refusal}
 use Rattle.trees.specs.Shapes.{limits}
 use Rattle.racks.specs.declared.rack.Rack.{Rack}
-use Rattle.racks.specs.Racks.{rack_fits, store_bytes}
+use Rattle.racks.specs.Racks.{rack_fits, slot_bytes, store_bytes}
 use Rattle.racks.specs.Calls.{check_open}
 use Rattle.racks.specs.Log.{Kept, made, KeptIn}
 use Rattle.racks.specs.Promises.{MakesRack}
-use Rattle.store.specs.Checks.{Opened}
-use Rattle.store.proofs.Exits.{handed}
+use Rattle.store.specs.declared.slot.Slots.{Slots}
+use Rattle.store.specs.Checks.{IsSlots}
 
 front_zeros : (n : ℕ) (xs : List ℕ) → take n (replicate n 0 ++ xs) ≡ replicate n 0
 front_zeros n xs =
@@ -25,15 +25,22 @@ zeroed_kept : (R : Rack) (after rest : List ℕ) → rack_fits R ≡ true → af
 zeroed_kept R after rest fits e =
     subst (Kept R []) (sym (ap (take (store_bytes R)) e ∙ front_zeros (store_bytes R) rest)) (made fits)
 
-pub made_rack : (R R' : Rack) → R ≡ R' → (store : List ℕ) (w : ℕ) (ys : List ℕ) → Opened R store w → ((rest : Option Refusal) → check_open R store rest ≡ rest)
-    → ys ≡ replicate (length (take (R.slots * w) store)) 0 → MakesRack R' store (ys ++ drop (R.slots * w) store) (Ok R)
-made_rack R R' same store w ys o pass e = subst (λ (Q : Rack). MakesRack Q store (ys ++ drop (R.slots * w) store) (Ok R)) same (pass None, refl, is, zeroed_kept R _ _ o.fits is)
+pub made_rack : (R R' : Rack) → R ≡ R' → (store : List ℕ) (v : Slots) (ys : List ℕ) → IsSlots R store v → ((rest : Option Refusal) → check_open R store rest ≡ rest)
+    → ys ≡ replicate (length (take (R.slots * v.width) store)) 0 → MakesRack R' store (ys ++ drop (R.slots * v.width) store) (Ok R)
+made_rack R R' same store v ys here pass e =
+    subst (λ (Q : Rack). MakesRack Q store (ys ++ drop (R.slots * v.width) store) (Ok R)) same
+    (pass None, refl, is, zeroed_kept R _ _ (ap rack_fits (sym here.rack) ∙ v.fits) is)
   where
-    long : R.slots * w ≡ store_bytes R
-    long = ap (λ (n : ℕ). R.slots * n) o.is
+    long : R.slots * v.width ≡ store_bytes R
+    long = ap (λ (n : ℕ). R.slots * n) (v.is ∙ ap slot_bytes here.rack)
 
-    is : ys ++ drop (R.slots * w) store ≡ replicate (store_bytes R) 0 ++ drop (store_bytes R) store
-    is = ap₂ (λ (a b : List ℕ). a ++ b) (e ∙ ap (λ (n : ℕ). replicate n 0) (length-take-le (R.slots * w) store o.room ∙ long)) (ap (λ (n : ℕ). drop n store) long)
+    room : R.slots * v.width ≤ length store
+    room =
+        subst (λ (Q : Rack). Q.slots * v.width ≤ length store) here.rack
+        (subst (λ (xs : List ℕ). v.rack.slots * v.width ≤ length xs) here.store_is v.room)
+
+    is : ys ++ drop (R.slots * v.width) store ≡ replicate (store_bytes R) 0 ++ drop (store_bytes R) store
+    is = ap₂ (λ (a b : List ℕ). a ++ b) (e ∙ ap (λ (n : ℕ). replicate n 0) (length-take-le (R.slots * v.width) store room ∙ long)) (ap (λ (n : ℕ). drop n store) long)
 
 -- the shape that is made, by its numbers
 pub shape_made : (F I K : ℕ) (s : Shape) → Some s ≡ cond (limits F I K) (Some (record { leaves = F; inners = I; tracks = K })) None
@@ -46,8 +53,3 @@ shape_made F I K s = go (limits F I K)
 
 pub rack_made : (s s' : Shape) (N S : ℕ) → s ≡ s' → ◌≡◌ {A = Rack} (record { shape = s; most = N; slots = S }) (record { shape = s'; most = N; slots = S })
 rack_made s s' N S e = λ i. record { shape = e i; most = N; slots = S }
-
-pub unmade : (R R' : Rack) → R ≡ R' → (store : List ℕ) (r : Result Rack Refusal) (e : Refusal) → IsErrAnd r (λ y. y ≡ e) → ((rest : Option Refusal) → check_open R store rest ≡ Some e)
-    → MakesRack R' store store r
-unmade R R' same store r e by stop =
-    subst (λ (Q : Rack). MakesRack Q store store r) same (subst (MakesRack R store store) (sym (handed r e by)) (stop None, refl))

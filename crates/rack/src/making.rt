@@ -3,7 +3,7 @@ ghost use Rattle.racks.specs.Guarantee.{Guarantee};
 ghost use Rattle.racks.specs.Promises.{rack_of, MakesRack};
 
 use racks::Rack;
-use store::{open, refused};
+use store::{Slots, refused};
 use trees::{Reason, Refusal, Shape};
 
 // A rack of these numbers. Its slots' bytes are zeroed, and no others are touched. What is guaranteed of every rack made so,
@@ -23,7 +23,7 @@ pub fn make(
         return Err(refused(Reason::OutsideLimits));
     };
     let rack = Rack { shape, most, slots };
-    let width = open(rack, store)?;
+    let width = Slots::open(rack, store)?.width;
     store[..slots * width].fill(0);
     Ok(rack)
 }

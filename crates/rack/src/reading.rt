@@ -8,31 +8,17 @@ ghost use Rattle.racks.specs.Promises.{judged_by, listed_by, Zeroed, VerdictLogg
 ghost use Rattle.rack.specs.Reading.{Asks};
 
 use lent::Cleared;
-use listing::{Unwritten, list_table};
+use listing::list_table;
 use machines::{SlotTable, judge as judge_by};
 use racks::Rack;
-use store::{full_slot, refused, slot_machine, slot_part};
+use store::{filled, refused};
 use trees::{Reason, Refusal};
 
 // The machine of a slot, for a loader that layers it and takes it in again.
 pub fn machine<'a>(rack: Rack, store: &'a [u8], slot: usize) -> Result<SlotTable<'a>, Refusal>
     ensures { Asks rack store.now slot result }
 {
-    let width = full_slot(rack, store, slot)?;
-    Ok(slot_machine(rack, store, width, slot))
-}
-
-fn judge_in(
-    rack: Rack,
-    store: &[u8],
-    slot: usize,
-    listing: &[u8],
-    stack: &mut [u8],
-) -> Result<bool, Refusal>
-    ensures { Done rack (call_judge slot listing.now (length stack.old)) store.now store.now (judged_by result) }
-{
-    let width = full_slot(rack, store, slot)?;
-    judge_by(&slot_machine(rack, store, width, slot), listing, stack)
+    Ok(filled(rack, store, slot)?.machine())
 }
 
 // Whether the slot's table accepts the tree whose listing this is. The stack has a place for each open part.
@@ -48,20 +34,8 @@ pub fn judge(
     ensures stack { Zeroed stack.old stack.new }
 {
     let stack = Cleared { cells: stack };
-    judge_in(rack, store, slot, listing, stack.cells)
-}
-
-fn list_in(rack: Rack, store: &[u8], slot: usize, buffer: &mut [u8]) -> Result<usize, Refusal>
-    ensures done { Done rack (call_list slot (length buffer.old)) store.now store.now (listed_by result buffer.new) }
-    ensures buffer { ListedIn (slot_text rack.shape rack.most (slot_of rack store.now slot)) buffer.old buffer.new result }
-{
-    let width = full_slot(rack, store, slot)?;
-    let image = slot_part(rack, store, width, slot);
-    match list_table(rack.shape, rack.most, image, buffer) {
-        Ok(length) => Ok(length),
-        Err(Unwritten::Short(_)) => Err(refused(Reason::BufferTooShort)),
-        Err(Unwritten::Unserved) => unreachable(),
-    }
+    let machine = filled(rack, store, slot)?.machine();
+    judge_by(&machine, listing, stack.cells)
 }
 
 // Writes the listing of the slot's table into the buffer, and answers its length. Bytes behind it are untouched, and a
@@ -71,5 +45,7 @@ pub fn list(rack: Rack, store: &[u8], slot: usize, buffer: &mut [u8]) -> Result<
     ensures buffer { ListedIn (slot_text rack.shape rack.most (slot_of rack store.now slot)) buffer.old buffer.new result }
     ensures right { (log : Log) → KeptIn rack log store.now → ListLogged rack log slot result buffer.new }
 {
-    list_in(rack, store, slot, buffer)
+    let image = filled(rack, store, slot)?.bytes();
+    // The bytes of a slot are always an image, so only the buffer can be too short.
+    list_table(rack.shape, rack.most, image, buffer).map_err(|_| refused(Reason::BufferTooShort))
 }

@@ -1,14 +1,16 @@
--- The exits of checks.
-use Rattle.std.proofs.Common.{◌≡◌, IsErrAnd, Some, Err, Option, Result, sym, ap, ◌∙◌, subst}
+-- What `?` hands on.
+use Rattle.std.proofs.Common.{◌≡◌, List, ℕ, IsErrAnd, Err, Result, sym, ap, ◌∙◌, subst}
 use Rattle.std.proofs.lemmas.Result.{err_from_is_err_and}
 use Rattle.trees.specs.declared.refusal.Refusal.{Refusal}
-use Rattle.store.specs.Checks.{Checked}
+use Rattle.racks.specs.declared.rack.Rack.{Rack}
+use Rattle.racks.specs.Calls.{Call, Outcome, refused}
+use Rattle.racks.specs.Promises.{Done}
 
--- what `?` hands on
-pub handed : {A : Type 0} (r : Result A Refusal) (e : Refusal) → IsErrAnd r (λ y. y ≡ e) → r ≡ Err e
+handed : {A : Type 0} (r : Result A Refusal) (e : Refusal) → IsErrAnd r (λ y. y ≡ e) → r ≡ Err e
 handed r e by = let p = err_from_is_err_and r by in p.1 ∙ ap (λ (y : Refusal). Err y) p.2
 
--- the exit of a `?` in a chain of checks
-pub exits : {A : Type 0} (chain : Option Refusal → Option Refusal) (P : A → Type 0) (r : Result A Refusal) (e : Refusal) → IsErrAnd r (λ y. y ≡ e)
-    → ((rest : Option Refusal) → chain rest ≡ Some e) → Checked chain P r
-exits {A} chain P r e by due = subst (Checked chain P) (sym (handed r e by)) due
+-- the outcome of a call whose refusal is handed on
+pub handed_on : {A : Type 0} (R : Rack) (store : List ℕ) (c : Call) (outcome : Result A Refusal → Outcome) → ((e : Refusal) → outcome (Err e) ≡ refused e)
+    → (r : Result A Refusal) (e : Refusal) → IsErrAnd r (λ y. y ≡ e) → Done R c store store (refused e) → Done R c store store (outcome r)
+handed_on {A} R store c outcome is r e by d =
+    subst (λ (x : Result A Refusal). Done R c store store (outcome x)) (sym (handed r e by)) (subst (Done R c store store) (sym (is e)) d)

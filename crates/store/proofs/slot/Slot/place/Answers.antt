@@ -1,6 +1,6 @@
 -- The bytes before a slot are few.
 use Rattle.std.proofs.Common.{arith}
-use Rattle.store.proofs.Widths.{slots_small, slot_room}
+use Rattle.store.proofs.Widths.{slots_small}
 use Rattle.store.proofs.slot.Slot.place.Goals as goal
 
 pub overflow_mul-result : goal.overflow_mul-result
