@@ -1,6 +1,6 @@
 // What stops the program, or a run of rules: no memory or output, a refusal where none is due, a table that is not built.
 // `random_tables` lists what it meets itself: derived as they are, a crate for both would be no plainer.
-use crate::image::Unbuilt;
+use build::Unbuilt;
 use std::io;
 use thiserror::Error;
 use trees::Refusal;

@@ -1,25 +1,15 @@
 // The build of a table, and its image.
 // No library takes memory from a heap, so each program has an image of its own.
-use build::{Build, build_cleared};
+use build::{Unbuilt, build_table};
 use machine::Machine;
 use machines::SlotTable;
 use slots::Layout;
-
-#[derive(Clone, Copy, Debug)]
-pub enum Unbuilt {
-    TooMany,
-    Unserved,
-}
 
 // Builds the table in these cells, and says how many states it has.
 pub fn build<M: Machine>(machine: &M, most: usize, cells: &mut [u8]) -> Result<u8, Unbuilt> {
     let mut codes = [0u64; Layout::MOST_STATES];
     let mut classes = [0u8; 2 * Layout::MOST_STATES];
-    match build_cleared(machine, most, &mut codes, cells, &mut classes) {
-        Build::Built(states) => Ok(states),
-        Build::TooMany => Err(Unbuilt::TooMany),
-        Build::Unserved => Err(Unbuilt::Unserved),
-    }
+    build_table(machine, most, &mut codes, cells, &mut classes)
 }
 
 // A table's bytes, and where each stands.

@@ -1,6 +1,7 @@
 // The build of one table: its states, a checksum of its image, and its time.
 use crate::fault::Fault;
-use crate::image::{Image, Unbuilt, build};
+use crate::image::{Image, build};
+use build::Unbuilt;
 use machine::Machine;
 use slots::Layout;
 use std::io;

@@ -5,7 +5,7 @@ ghost use Rattle.racks.specs.Promises.{lent_by};
 ghost use Rattle.filling.specs.Fillings.{Makes, MakesAtom, SameMemory};
 
 use atoms::{Atom, Below, Lab, Left, Right, Sing, Sub};
-use build::{Build, build_cleared};
+use build::{Unbuilt, build_table};
 use machine::Machine;
 use racks::Working;
 use store::{Place, Slot, refused};
@@ -22,10 +22,10 @@ pub(crate) fn build_in<M: Machine>(
     ensures same { SameMemory working.old working.new }
 {
     let most = slot.slots.rack.most;
-    match build_cleared(machine, most, working.codes, working.cells, working.classes) {
-        Build::Built(_) => Ok(slot.place()),
-        Build::TooMany => Err(refused(Reason::TooManyStates)),
-        Build::Unserved => Err(refused(Reason::MemoryTooShort)),
+    match build_table(machine, most, working.codes, working.cells, working.classes) {
+        Ok(_) => Ok(slot.place()),
+        Err(Unbuilt::TooMany) => Err(refused(Reason::TooManyStates)),
+        Err(Unbuilt::Unserved) => Err(refused(Reason::MemoryTooShort)),
     }
 }
 

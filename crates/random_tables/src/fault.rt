@@ -1,6 +1,6 @@
 // What stops the program: no memory, no output, a refusal where none is due, a table that is not built.
 // `bench` lists what it meets itself: derived as they are, a crate for both would be no plainer.
-use crate::image::Unbuilt;
+use build::Unbuilt;
 use std::alloc::AllocError;
 use std::io;
 use thiserror::Error;

@@ -1,16 +1,10 @@
 // The build under test.
 // No library takes memory from a heap, so each program has an image of its own.
-use build::{Build, build_cleared};
+use build::{Unbuilt, build_table};
 use machine::Machine;
 use machines::SlotTable;
 use slots::Layout;
 use std::alloc::{AllocError, Global};
-
-#[derive(Clone, Copy, Debug)]
-pub enum Unbuilt {
-    TooMany,
-    Unserved,
-}
 
 // A table's bytes, and where each stands.
 #[derive(Drop)]
@@ -32,11 +26,7 @@ impl Image {
 fn build_in<M: Machine>(machine: &M, most: usize, cells: &mut [u8]) -> Result<u8, Unbuilt> {
     let mut codes = [0u64; Layout::MOST_STATES];
     let mut classes = [0u8; 2 * Layout::MOST_STATES];
-    match build_cleared(machine, most, &mut codes, cells, &mut classes) {
-        Build::Built(states) => Ok(states),
-        Build::TooMany => Err(Unbuilt::TooMany),
-        Build::Unserved => Err(Unbuilt::Unserved),
-    }
+    build_table(machine, most, &mut codes, cells, &mut classes)
 }
 
 // The image of the machine's table, in as many cells as the library says. That by brute force has as many as it comes to.

@@ -1,7 +1,8 @@
 // Random machines: tables over random bytes.
 use crate::brute::{Brute, image_of};
-use crate::image::{Image, Unbuilt, build};
+use crate::image::{Image, build};
 use crate::random::Random;
+use build::Unbuilt;
 use machines::SlotTable;
 use std::alloc::{AllocError, Global};
 use std::num::{NonZeroU8, Saturating};

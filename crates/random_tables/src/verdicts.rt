@@ -1,10 +1,11 @@
 // Random rules: the verdicts of their built tables against set logic.
 use crate::fault::Fault;
 use crate::formula::{Formula, Truth, draw_formulas};
-use crate::image::{Image, Unbuilt, build};
+use crate::image::{Image, build};
 use crate::random::Random;
 use crate::small_tree::{Tree, draw_tree};
 use atoms::{Atom, Below, Lab, Left, Right, Sing, Sub};
+use build::Unbuilt;
 use layers::{Both, Either, Exists, Not};
 use machine::Machine;
 use machines::{SlotTable, judge};
