@@ -1,7 +1,6 @@
 // What stops the program: no memory, no output, a refusal where none is due, a table that is not built.
 // `bench` lists what it meets itself: derived as they are, a crate for both would be no plainer.
 use build::Unbuilt;
-use std::alloc::AllocError;
 use std::io;
 use thiserror::Error;
 use trees::Refusal;
@@ -10,8 +9,6 @@ use trees::Refusal;
 pub enum Fault {
     #[error("{0}")]
     Io(#[from] io::Error),
-    #[error(transparent)]
-    Memory(#[from(alloc)] AllocError),
     #[error("{0}")]
     Refused(#[from] Refusal),
     #[error("a table is not built: {0:?}")]

@@ -4,6 +4,7 @@ use crate::random::Random;
 use crate::small_tree::{Node, Tree};
 use atoms::Atom;
 use std::alloc::{AllocError, Global};
+use std::io;
 use trees::Shape;
 
 // A formula over earlier ones, which it names by their places: parts are shared, and the table of each is built once.
@@ -53,11 +54,7 @@ fn draw_layer(random: &mut Random, shape: Shape, earlier: u8) -> Formula {
 }
 
 // Six atoms, four formulas over them, three over those ten, two over those thirteen: layers nested to depth 3.
-pub fn draw_formulas(
-    alloc: Global,
-    random: &mut Random,
-    shape: Shape,
-) -> Result<Vec<Formula>, AllocError> {
+pub fn draw_formulas(alloc: Global, random: &mut Random, shape: Shape) -> io::Result<Vec<Formula>> {
     let mut all: Vec<Formula> = (0..6)
         .map(|_| Formula::Atom(draw_atom(random, shape)))
         .collect(alloc)?;

@@ -4,7 +4,8 @@ use build::{Unbuilt, build_table};
 use machine::Machine;
 use machines::SlotTable;
 use slots::Layout;
-use std::alloc::{AllocError, Global};
+use std::alloc::Global;
+use std::io;
 
 // A table's bytes, and where each stands.
 #[derive(Drop)]
@@ -34,7 +35,7 @@ pub fn build<M: Machine>(
     alloc: Global,
     machine: &M,
     most: usize,
-) -> Result<Result<Image, Unbuilt>, AllocError> {
+) -> io::Result<Result<Image, Unbuilt>> {
     let Some(layout) = Layout::new(machine.shape(), most) else {
         return Ok(Err(Unbuilt::Unserved));
     };

@@ -5,6 +5,7 @@ use crate::random::Random;
 use build::Unbuilt;
 use machines::SlotTable;
 use std::alloc::{AllocError, Global};
+use std::io;
 use std::num::{NonZeroU8, Saturating};
 use trees::Shape;
 
@@ -148,7 +149,7 @@ impl Tally {
         }
     }
 
-    fn try_one(&mut self, alloc: Global, random: &mut Random) -> Result<(), AllocError> {
+    fn try_one(&mut self, alloc: Global, random: &mut Random) -> io::Result<()> {
         let shape = Shape {
             leaves: random.byte_below(3).saturating_add(1),
             inners: random.byte_below(2).saturating_add(1),
@@ -165,7 +166,7 @@ impl Tally {
 }
 
 // Builds the tables of so many random machines, and compares them with those by brute force.
-pub fn try_machines(alloc: Global, random: &mut Random, cases: u64) -> Result<Tally, AllocError> {
+pub fn try_machines(alloc: Global, random: &mut Random, cases: u64) -> io::Result<Tally> {
     let mut tally = Tally::default();
     for _ in 0..cases {
         tally.try_one(alloc, random)?;

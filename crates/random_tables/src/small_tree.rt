@@ -3,7 +3,8 @@
 // of a number, that of track 0 in the lowest: a formula's truth is a list with a place for each marking.
 use crate::bit_set::BitSet;
 use crate::random::Random;
-use std::alloc::{AllocError, Global};
+use std::alloc::Global;
+use std::io;
 use std::ops::Range;
 use trees::Shape;
 
@@ -59,12 +60,7 @@ pub struct Tree {
     tracks: u8,
 }
 
-pub fn draw_tree(
-    alloc: Global,
-    random: &mut Random,
-    shape: Shape,
-    leaves: u8,
-) -> Result<Tree, AllocError> {
+pub fn draw_tree(alloc: Global, random: &mut Random, shape: Shape, leaves: u8) -> io::Result<Tree> {
     let mut nodes = Vec::new(alloc);
     let mut open: Vec<Part> = Vec::new(alloc);
     let mut to_come = leaves;
@@ -138,10 +134,11 @@ impl Tree {
             .all(|(place, node)| !set.has(place) || holds(node))
     }
 
-    pub fn listing(&self, alloc: Global, marking: u64) -> Result<Vec<u8>, AllocError> {
-        (0u64..)
+    pub fn listing(&self, alloc: Global, marking: u64) -> io::Result<Vec<u8>> {
+        let bytes = (0u64..)
             .zip(self.nodes.iter())
             .flat_map(|(place, node)| [node.label, self.marks(marking, place)])
-            .collect(alloc)
+            .collect(alloc)?;
+        Ok(bytes)
     }
 }

@@ -11,6 +11,7 @@ use machine::Machine;
 use machines::{SlotTable, judge};
 use slots::Layout;
 use std::alloc::Global;
+use std::io;
 use std::num::Saturating;
 use trees::Shape;
 
@@ -63,14 +64,28 @@ impl Rules {
         }
     }
 
-    fn add(&mut self, formula: Formula) -> Result<(), Fault> {
+    fn rule(&self, formula: Formula) -> Result<Rule, Fault> {
         let image = match self.build_formula(formula) {
             Ok(image) => Some(image),
             Err(Fault::Unbuilt(Unbuilt::TooMany)) => None,
             Err(fault) => return Err(fault),
         };
-        self.rules.push(Rule { formula, image })?;
+        Ok(Rule { formula, image })
+    }
+
+    fn add(&mut self, rule: Rule) -> io::Result<()> {
+        self.rules.push(rule)?;
         Ok(())
+    }
+
+    // Of which markings of the tree each rule holds.
+    fn truths(&self, tree: &Tree) -> io::Result<Vec<Truth>> {
+        let mut truths = Vec::new(self.alloc);
+        for rule in &self.rules {
+            let truth = rule.formula.truth(self.alloc, tree, &truths)?;
+            truths.push(truth)?;
+        }
+        Ok(truths)
     }
 }
 
@@ -81,7 +96,8 @@ fn draw_rules(alloc: Global, random: &mut Random, shape: Shape) -> Result<Rules,
         rules: Vec::new(alloc),
     };
     for formula in draw_formulas(alloc, random, shape)? {
-        rules.add(formula)?;
+        let rule = rules.rule(formula)?;
+        rules.add(rule)?;
     }
     Ok(rules)
 }
@@ -158,13 +174,11 @@ impl Trial<'_> {
         let most_leaves = if rules.shape.tracks < 3 { 4 } else { 3 };
         let leaves = self.random.byte_below(most_leaves).saturating_add(1);
         let tree = draw_tree(self.alloc, self.random, rules.shape, leaves)?;
-        let mut truths = Vec::new(self.alloc);
-        for rule in &rules.rules {
-            let truth = rule.formula.truth(self.alloc, &tree, &truths)?;
+        let truths = rules.truths(&tree)?;
+        for (rule, truth) in rules.rules.iter().zip(truths.iter()) {
             if let Some(image) = &rule.image {
-                self.try_tree(&tree, image, &truth)?;
+                self.try_tree(&tree, image, truth)?;
             }
-            truths.push(truth)?;
         }
         Ok(())
     }
