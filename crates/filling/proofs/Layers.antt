@@ -17,7 +17,7 @@ use Rattle.racks.specs.Racks.{slot, slot_machine}
 
 -- a refusal is not none
 pub no_refusal : {A : Type 0} (o : Option Refusal) (e : Refusal) → o ≡ None → o ≡ Some e → A
-no_refusal o e p q = let z : ◌≡◌ {A = ℕ} 0 1 = cc in absurd (omega arith)
+no_refusal o e p q = absurd (cc)
 
 few : (R : Rack) (store : List ℕ) (k : ℕ) → (slot_machine R store k).count ≤ 32
 few R store k = slot_few R.shape R.most (slot R store k)

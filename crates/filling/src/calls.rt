@@ -1,4 +1,5 @@
-// The calls that fill a slot. Working memory ends all zeros on every way out.
+// The calls that fill a slot. Working memory ends all zeros on every way out. Each call takes it apart itself: of a struct of
+// slices that is handed on whole, a caller is not told what the slices end as.
 ghost use Rattle.atoms.specs.Making.{asked};
 ghost use Rattle.racks.specs.Calls.{call_atom, call_not, call_both, call_either, call_some, call_take};
 ghost use Rattle.racks.specs.Promises.{lent_by, AllZeroed, filled_by, Done};

@@ -49,7 +49,7 @@ shape_made F I K s = go (limits F I K)
   where
     go : (b : Bool) → Some s ≡ cond b (Some (record { leaves = F; inners = I; tracks = K })) None → s ≡ record { leaves = F; inners = I; tracks = K }
     go true e = cc
-    go false e = let z : ◌≡◌ {A = ℕ} 0 1 = cc in absurd (omega arith)
+    go false e = cc
 
 pub rack_made : (s s' : Shape) (N S : ℕ) → s ≡ s' → ◌≡◌ {A = Rack} (record { shape = s; most = N; slots = S }) (record { shape = s'; most = N; slots = S })
 rack_made s s' N S e = λ i. record { shape = e i; most = N; slots = S }

@@ -1,5 +1,5 @@
 -- What the listing of a slot's bytes answers is the text of the call.
-use Rattle.std.proofs.Common.{◌≡◌, ℕ, ◌+◌, ◌*◌, ◌≤◌, Bool, true, false, leb, List, ◌++◌, length, take, drop, None, Ok, Err, Option, Result, MatchResult, sym, refl, ap, ◌∙◌, subst, arith, length-drop, length-take}
+use Rattle.std.proofs.Common.{◌≡◌, ℕ, ◌+◌, ◌*◌, ◌≤◌, Bool, true, leb, List, ◌++◌, length, take, drop, None, Ok, Err, Option, Result, MatchResult, sym, refl, ap, ◌∙◌, subst, arith, length-drop, length-take}
 use Rattle.std.proofs.lemmas.List.{take-append-le, take_all}
 use Rattle.std.proofs.lemmas.Bool.{le-leb, lt-leb, and_from}
 use Rattle.trees.specs.declared.refusal.Reason.TheVariants.{BufferTooShort}
@@ -18,9 +18,9 @@ use Rattle.racks.specs.Promises.{listed_by, ListedIn, ListLogged, Done}
 use Rattle.racks.proofs.Dones.{done, denied}
 use Rattle.racks.proofs.Lists.{lists}
 use Rattle.racks.proofs.Passes.{limits_of}
+use Rattle.racks.proofs.Stores.{ends}
 use Rattle.store.specs.declared.slot.Slot.{Slot}
 use Rattle.store.specs.Checks.{full_chain}
-use Rattle.store.proofs.Widths.{slot_room}
 
 front : (n : ℕ) (text rest : List ℕ) → n ≡ length text → take n (text ++ rest) ≡ text
 front n text rest e = take-append-le n text rest (omega (arith, e)) ∙ take_all n text (omega (arith, e))
@@ -49,10 +49,7 @@ module _ (R : Rack) (store : List ℕ) (k : ℕ) (before after : List ℕ) (pass
             (pass (check (leb (length text) (length before)) short None) ∙ ap (λ (b : Bool). check b short None) (lt-leb _ _ (omega (arith, l.1, l.2)))),
         l.3,
       )
-  answers fits (Err Unserved) q is l =
-      let z : true ≡ false = sym fits ∙ l.0 in
-      let n : ◌≡◌ {A = ℕ} 0 1 = cc in
-      absurd (omega arith)
+  answers fits (Err Unserved) q is l = absurd (cc)
 
 -- the bytes of a slot are always listable
 pub slot_listable : (s : Slot) → listable s.slots.rack.shape s.slots.rack.most (slot s.slots.rack s.slots.store.now s.number) ≡ true
@@ -60,9 +57,9 @@ slot_listable s = and_from (fits s.slots.rack.shape s.slots.rack.most) _ (limits
   where
     long : length (slot s.slots.rack s.slots.store.now s.number) ≡ slot_bytes s.slots.rack
     long =
-        let end = slot_room s.number s.slots.rack.slots s.slots.width (length s.slots.store.now) s.there s.slots.room in
+        let end = ends s.slots.width s.number s.slots.rack.slots s.there in
         let low : s.number * slot_bytes s.slots.rack + slot_bytes s.slots.rack ≤ length s.slots.store.now =
-        subst (λ (n : ℕ). s.number * n + n ≤ length s.slots.store.now) s.slots.is end in
+            subst (λ (n : ℕ). s.number * n + n ≤ length s.slots.store.now) s.slots.is (omega (arith, end, s.slots.room)) in
         simp (length-take, length-drop) (omega arith)
 
 pub list_logged : (R : Rack) (store : List ℕ) (k room : ℕ) (r : Result ℕ Refusal) (buffer : List ℕ) → Done R (call_list k room) store store (listed_by r buffer)

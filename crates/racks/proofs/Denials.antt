@@ -1,5 +1,5 @@
 -- A call is denied exactly where a refusal is due.
-use Rattle.std.proofs.Common.{◌≡◌, ℕ, true, false, ◌↔◌, List, Some, None, Option, refl, subst, inl, inr, arith}
+use Rattle.std.proofs.Common.{◌≡◌, ℕ, true, false, ◌↔◌, List, Some, None, Option, refl, subst, inl, inr}
 use Rattle.trees.specs.declared.refusal.Refusal.{Refusal}
 use Rattle.racks.specs.declared.rack.Rack.{Rack}
 use Rattle.racks.specs.Calls.{Call, Outcome, refused, filled, judged, listed, due, Write, table, zeros, nothing, write, Crowded, Written, Effect, answered_by}
@@ -7,7 +7,7 @@ use Rattle.racks.specs.Guarantee.{Due}
 use Rattle.racks.proofs.Readings.{judge_writes, list_writes}
 
 none_or_some : (o : Option Refusal) (e : Refusal) → o ≡ None → o ≡ Some e → ⊥
-none_or_some o e p q = let z : ◌≡◌ {A = ℕ} 0 1 = cc in omega arith
+none_or_some o e p q = cc
 
 module _ (R : Rack) (store : List ℕ) where
   roomy : (w : Write) (after : List ℕ) → Written R store w after → ¬ Crowded R w
@@ -23,7 +23,7 @@ module _ (R : Rack) (store : List ℕ) where
   not_due c none few (inr d) = few d.1
 
   answered : (c : Call) → ¬ Due R store c → (true ≡ false) ↔ Due R store c
-  answered c never = ((λ e. absurd (let z : ◌≡◌ {A = ℕ} 0 1 = cc in omega arith)), λ d. absurd (never d))
+  answered c never = ((λ e. absurd (cc)), λ d. absurd (never d))
 
   pub denied : (c : Call) (o : Outcome) → Effect R store c o → (answered_by o ≡ false) ↔ Due R store c
   denied c (refused e) f = ((λ _. why f), λ _. refl)

@@ -63,7 +63,7 @@ module _ (R : Rack) where
       rule_of k h full = go (rules k) refl (sym (taken_in k h) ∙ full)
         where
           go : (o : Option Rule) → rules k ≡ o → is_rule o ≡ true → (r : Rule) × (rules k ≡ Some r) × Holding R r (slot R store k)
-          go None e z = absurd (let w : ◌≡◌ {A = ℕ} 0 1 = cc in omega arith)
+          go None e z = absurd (cc)
           go (Some r) e z = (r, e, held_at k r h e)
 
       pub wrote : (k : ℕ) (bs : List ℕ) (o : Option Rule) → k < R.slots → length bs ≡ W → SlotHolds R bs o

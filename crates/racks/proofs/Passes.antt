@@ -17,6 +17,7 @@ pub record Limits (R : Rack) : Type 0 where
   pub shape : Limited R.shape
   pub least : 4 ≤ R.most
   pub most : R.most ≤ 32
+  pub slots : R.slots ≤ 16
   pub fitting : fits R.shape R.most ≡ true
 
 pub limits_of : (R : Rack) → rack_fits R ≡ true → Limits R
@@ -29,13 +30,14 @@ limits_of R h =
       shape = p.0;
       least = low;
       most = leb-true R.most 32 b.1;
+      slots = leb-true R.slots 16 (and_parts (leb 1 R.slots) (leb R.slots 16) q.1).1;
       fitting = and_from (limits R.shape.leaves R.shape.inners R.shape.tracks) (within 1 32 R.most) p.0
           (and_from (leb 1 R.most) (leb R.most 32) (le-leb 1 R.most (omega arith)) b.1);
     }
 
 passed : (ok : Bool) (e : Refusal) (rest : Option Refusal) → check ok e rest ≡ None → (ok ≡ true) × (rest ≡ None)
 passed true e rest h = (refl, h)
-passed false e rest h = absurd (let z : ◌≡◌ {A = ℕ} 0 1 = cc in omega arith)
+passed false e rest h = absurd (cc)
 
 shapes_same : (a b : Shape) → same_shape a b ≡ true → a ≡ b
 shapes_same a b h =

@@ -1,5 +1,5 @@
 -- Calls that only read: verdicts and lists write nothing, and what writes nothing gives no rule.
-use Rattle.std.proofs.Common.{◌≡◌, ℕ, Bool, List, Option, refl, arith}
+use Rattle.std.proofs.Common.{◌≡◌, ℕ, Bool, List, Option, refl}
 use Rattle.automata.specs.Automata.{Automaton}
 use Rattle.automata.specs.Rules.{Rule}
 use Rattle.racks.specs.declared.rack.Rack.{Rack}
@@ -30,10 +30,10 @@ module _ (R : Rack) (store : List ℕ) where
   list_writes (call_list k room) text j = refl
 
   writes_table : (k : ℕ) (M : Automaton) → table k M ≡ nothing → ⊥
-  writes_table k M e = let z : ◌≡◌ {A = ℕ} 0 1 = cc in omega arith
+  writes_table k M e = cc
 
   writes_zeros : (k : ℕ) → zeros k ≡ nothing → ⊥
-  writes_zeros k e = let z : ◌≡◌ {A = ℕ} 0 1 = cc in omega arith
+  writes_zeros k e = cc
 
   pub no_rule_given : (rules : ℕ → Option Rule) (c : Call) → write R store c ≡ nothing → rules_after c rules ≡ rules
   no_rule_given rules (call_atom k A l) e = absurd (writes_table _ _ e)

@@ -45,9 +45,9 @@ pub fn ready<'a>(
     ensures { Checked (ready_chain rack store.now res sources.now) (IsReady rack store.now res sources.now) result }
 {
     let slots = Slots::open(rack, store)?;
-    let free = slots.find(res)?;
+    let slot = slots.find(res)?;
     each_exists(slots, sources)?;
-    free.free()?;
+    slot.free()?;
     each_full(slots, sources)?;
     Ok(slots)
 }

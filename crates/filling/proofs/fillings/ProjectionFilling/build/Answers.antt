@@ -9,7 +9,7 @@ use Rattle.machine.specs.Making.{refusal}
 use Rattle.racks.specs.Racks.{rack_fits, slot_machine}
 use Rattle.racks.specs.Calls.{call_some, check_lent}
 use Rattle.racks.specs.Promises.{lent_by}
-use Rattle.store.proofs.Widths.{rack_limits}
+use Rattle.racks.proofs.Passes.{limits_of}
 use Rattle.store.proofs.Moving.{machine_at, slot_of}
 use Rattle.filling.proofs.Ends.{fills}
 use Rattle.filling.proofs.Layers.{track_passed}
@@ -23,7 +23,7 @@ returns-clause-fills c =
     let l = lent_by c.args.working.now in
     let here = c.in_ok-slots.ensures.0.slots in
     let below = machine_at (slot_of here c.slot.ensures) _ c.machine.ensures in
-    let limits = (rack_limits R (ap rack_fits (sym here.rack) ∙ c.in_ok-slots.slots.fits)).fits.shape in
+    let limits = (limits_of R (ap rack_fits (sym here.rack) ∙ c.in_ok-slots.slots.fits)).shape in
     fills (slot_of here c.slot-2.ensures) (call_some c.args.res source track l) (some_layer track (slot_machine R c.args.store.now source)) _
     (c.in_ok-machine.ensures.layer (subst Limited (sym (ap (λ (m : Automaton). m.shape) below)) limits) ∙ ap (some_layer track) below) l _ _ refl
     (c.in_ok-slots.ensures.1 (check (ltb track R.shape.tracks) (refusal NoSuchTrack) (check_lent R l))
