@@ -7,7 +7,7 @@ mod cleared;
 #[cfg(test)]
 mod tests {
     use atoms::Sing;
-    use build::{TooMany, build_table};
+    use build::{Unbuilt, build_table};
     use layers::{Both, Exists};
     use machine::Machine;
     use std::alloc::{AllocError, Global};
@@ -20,22 +20,22 @@ mod tests {
         tracks: 2,
     };
 
-    // The number of states of the machine's table; 0 for too many codes, 99 where the memory does not serve.
-    fn states<M: Machine>(heap: Global, machine: &M, most: usize) -> Result<u8, AllocError> {
+    // Builds with memory enough for 32 states.
+    fn states<M: Machine>(
+        heap: Global,
+        machine: &M,
+        most: usize,
+    ) -> Result<Result<u8, Unbuilt>, AllocError> {
         let mut codes = vec![in heap; 0u64; 32]?;
         let mut cells = vec![in heap; 0u8; 4200]?;
         let mut classes = vec![in heap; 0u8; 64]?;
-        match build_table(
+        Ok(build_table(
             machine,
             most,
             codes.as_mut_slice(),
             cells.as_mut_slice(),
             classes.as_mut_slice(),
-        ) {
-            Some(Ok(states)) => Ok(states),
-            Some(Err(TooMany)) => Ok(0),
-            None => Ok(99),
-        }
+        ))
     }
 
     #[test]
@@ -51,12 +51,8 @@ mod tests {
         let mut codes = [7u64; 4];
         let mut cells = [7u8; 39];
         let mut classes = [7u8; 8];
-        assert!(rt;
-            matches!(
-                build_table(&machine, 4, &mut codes, &mut cells, &mut classes),
-                Some(Ok(3))
-            )
-        );
+        let built = build_table(&machine, 4, &mut codes, &mut cells, &mut classes);
+        assert_eq!(rt; built, Ok(3));
         let image = [
             3, 0, 1, 0, 0, 0, 1, 0, 1, 2, 0, 1, 2, 2, 0, 2, 2, 2, 0, 0, 0, 0, 0, 1, 2, 2, 0, 2, 2,
             2, 0, 2, 2, 2, 0, 0, 0, 0, 0,
@@ -69,10 +65,27 @@ mod tests {
     fn codes_and_states(rt: HostRuntime) -> Result<(), Fail> {
         let heap = rt.alloc();
         let both = Both::new(Sing::new(SMALL, 0)?, Sing::new(SMALL, 1)?)?;
-        assert_eq!(rt; states(heap, &both, 8)?, 0);
-        assert_eq!(rt; states(heap, &both, 9)?, 5);
-        assert_eq!(rt; states(heap, &Exists::new(Sing::new(SMALL, 0)?, 0)?, 8)?, 1);
-        assert_eq!(rt; states(heap, &both, 33)?, 99);
+        assert_eq!(rt; states(heap, &both, 8)?, Err(Unbuilt::TooMany));
+        assert_eq!(rt; states(heap, &both, 9)?, Ok(5));
+        assert_eq!(rt;
+            states(heap, &Exists::new(Sing::new(SMALL, 0)?, 0)?, 8)?,
+            Ok(1)
+        );
+        assert_eq!(rt; states(heap, &both, 33)?, Err(Unbuilt::Unserved));
+        Ok(())
+    }
+
+    #[test]
+    fn why_no_table_is_built(rt: HostRuntime) -> Result<(), Fail> {
+        let heap = rt.alloc();
+        let mut text = String::new(heap);
+        for unbuilt in [Unbuilt::TooMany, Unbuilt::Unserved] {
+            writeln!(text, "{unbuilt}")?;
+        }
+        assert_eq!(rt;
+            text.as_str(),
+            "more codes are reached than there is room for\nthe shape, the number of states or the lent memory does not serve\n"
+        );
         Ok(())
     }
 }
