@@ -42,13 +42,21 @@ pub(crate) struct States<'a> {
 }
 
 impl States<'_> {
+    // The first index of a state, or none where there is no such state.
+    fn first(&self, s: usize) -> Option<usize>
+        ensures { MatchOption result (length self.now.firsts.now ≤ s) (λ x. (s < length self.now.firsts.now) × (x < length self.now.classes.now) × (x ≡ slice_index self.now.firsts.now s)) }
+    {
+        self.firsts.get(s).map(|x| usize::from(*x))
+    }
+
     // Whether each state is final.
     fn put_finals<M: Machine>(&self, machine: &M, finals: &mut [u8])
         ensures { (s : ℕ) → s < length finals.old → slice_index finals.new s ≡ final_byte (M.Machine.meaning machine.now) self.now.codes.now self.now.firsts.now (length self.now.firsts.now) s }
     {
         for (s, cell) in finals.iter_mut().enumerate() {
-            let first = self.firsts.get(s);
-            let is_final = first.is_some_and(|x| machine.is_final(self.codes[usize::from(*x)]));
+            let is_final = self
+                .first(s)
+                .is_some_and(|x| machine.is_final(self.codes[x]));
             *cell = u8::from(is_final);
         }
     }
@@ -68,13 +76,10 @@ impl States<'_> {
         ensures { MatchOption result (of_states self.now.layout.most (length self.now.firsts.now) j ≡ false) (λ i. (of_states self.now.layout.most (length self.now.firsts.now) j ≡ true) × (i ≡ source_at self.now.layout self.now.firsts.now j)) }
     {
         let n = self.layout.most;
-        let left = *self.firsts.get(j / n % n)?;
-        let right = *self.firsts.get(j % n)?;
+        let left = self.first(j / n % n)?;
+        let right = self.first(j % n)?;
         let (label, marks) = inner_step(self.layout, j / (n * n));
-        Some(
-            self.layout
-                .inner_address(label, marks, usize::from(left), usize::from(right)),
-        )
+        Some(self.layout.inner_address(label, marks, left, right))
     }
 
     fn put_inners(&self, cells: &mut [u8])
