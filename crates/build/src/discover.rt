@@ -90,7 +90,7 @@ pub(crate) fn discover<M: Machine>(
     };
     found.ask_leaves(machine)?;
     let mut ring = 0;
-    // a ring may find codes, so its end is not known before
+    // not over a range, since a ring may find codes, and there is a ring for each
     while ring < found.len {
         found.ask_ring(machine, ring)?;
         ring += 1;

@@ -9,7 +9,7 @@ use slots::Layout;
 #[derive(Clone, Copy, PartialEq, Eq, Debug)]
 pub(crate) struct TooMany;
 
-// The first `len` codes are found, and each cell written has the index of one.
+// The first `len` codes are found, and each cell written has the index of one. The memory is lent, as there is no heap.
 #[derive(Drop)]
 pub(crate) struct Found<'a> {
     pub(crate) layout: Layout,

@@ -61,6 +61,7 @@ impl States<'_> {
         }
     }
 
+    // The leaf cells, of indices of codes, made the classes of these.
     fn put_leaves(&self, leaves: &mut [u8])
         requires { (row : ℕ) → row < length leaves.old → slice_index leaves.old row < length self.now.classes.now }
         ensures { (row : ℕ) → row < length leaves.old → slice_index leaves.new row ≡ class_at self.now.classes.now (slice_index leaves.old row) }
@@ -82,11 +83,13 @@ impl States<'_> {
         Some(self.layout.inner_address(label, marks, left, right))
     }
 
+    // The cells over states, each from the cell of their first indices; zeros where there are no such states.
     fn put_inners(&self, cells: &mut [u8])
         requires { Indexed self.now.layout (length self.now.classes.now) cells.old }
         ensures { Filled (1 + self.now.layout.most + leaf_rows self.now.layout.shape) (inner_rows self.now.layout.shape * (self.now.layout.most * self.now.layout.most)) (inner_byte self.now.layout (length self.now.firsts.now) cells.old self.now.classes.now self.now.firsts.now) cells.old cells.new }
     {
         let start = 1 + self.layout.most + self.layout.leaf_rows();
+        // by index, since a cell is read back from elsewhere in the slice that is written
         for j in 0..self.layout.inner_rows() * (self.layout.most * self.layout.most) {
             cells[start + j] = match self.source(j) {
                 Some(from) => self.classes[usize::from(cells[from])],

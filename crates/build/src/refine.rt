@@ -82,7 +82,7 @@ impl Round<'_> {
         ensures { Numbering (Agreed self.now.layout (length self.now.classes.now) self.now.cells.now self.now.classes.now) (class_at next.new) (length self.now.classes.now) result }
     {
         let mut count = 0;
-        // by index, since a class is read back where an earlier code was given it
+        // by index, since the class of an earlier code is read back from the slice that is written
         for x in 0..self.classes.len() {
             match self.partner(x) {
                 Some(y) => {
