@@ -2,12 +2,10 @@
 // checksum of its image. With the argument `times` it prints the best of three times as well.
 #![tactic(auto)]
 
-mod fault;
-mod image;
 mod rules;
 mod timing;
 
-use fault::Fault;
+use images::Fault;
 use slots::Layout;
 use std::env;
 use timing::Bench;

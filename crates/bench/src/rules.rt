@@ -1,8 +1,7 @@
 // The rules whose tables are built.
-use crate::fault::Fault;
-use crate::image::Image;
 use crate::timing::{Bench, where_built};
 use atoms::{Below, Lab, Left, Right, Sing, Sub};
+use images::{Fault, Image};
 use layers::{Both, Either, Exists, Not};
 use machine::Machine;
 use machines::SlotTable;

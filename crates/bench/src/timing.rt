@@ -1,11 +1,16 @@
 // The build of one table: its states, a checksum of its image, and its time.
-use crate::fault::Fault;
-use crate::image::{Image, build};
 use build::Unbuilt;
+use images::{Fault, Image, build_in};
 use machine::Machine;
 use slots::Layout;
 use std::io;
 use std::time::{Duration, Instant};
+
+fn checksum(bytes: &[u8]) -> u64 {
+    bytes.iter().fold(0xcbf2_9ce4_8422_2325, |sum, byte| {
+        (sum ^ u64::from(*byte)).wrapping_mul(0x100_0000_01b3)
+    })
+}
 
 #[derive(Clone, Copy)]
 pub struct Bench<'a> {
@@ -21,29 +26,18 @@ impl Bench<'_> {
         i % usize::from(self.layout.shape.tracks)
     }
 
-    // Memory for an image.
-    fn cells(self) -> io::Result<Vec<u8>> {
-        Ok(vec![in self.rt.alloc(); 0u8; self.layout.width()]?)
-    }
-
     pub fn image<M: Machine>(self, machine: &M) -> Result<Image, Fault> {
-        let mut cells = self.cells()?;
-        let states = build(machine, self.layout.most, cells.as_mut_slice())?;
-        Ok(Image {
-            layout: self.layout,
-            states,
-            cells,
-        })
+        Ok(Image::build(self.rt.alloc(), machine, self.layout.most).map_err(io::Error::from)??)
     }
 
     fn time<M: Machine>(self, machine: &M, cells: &mut [u8]) -> io::Result<Duration> {
         let start = Instant::now(self.rt)?;
-        let _ = build(machine, self.layout.most, cells);
+        let _ = build_in(machine, self.layout.most, cells);
         start.elapsed(self.rt)
     }
 
     fn show_time<M: Machine>(self, machine: &M) -> io::Result<()> {
-        let mut cells = self.cells()?;
+        let mut cells = vec![in self.rt.alloc(); 0u8; self.layout.width()]?;
         let mut best = Duration::MAX;
         for _ in 0..3 {
             best = best.min(self.time(machine, cells.as_mut_slice())?);
@@ -63,7 +57,7 @@ impl Bench<'_> {
         match &image {
             Ok(image) => {
                 let states = image.states;
-                let sum = image.checksum();
+                let sum = checksum(image.cells.as_slice());
                 println!(self.rt; "{name}: {states} states, {sum:016x}")?;
             }
             Err(Fault::Unbuilt(Unbuilt::TooMany)) => println!(self.rt; "{name}: too many")?,

@@ -1,8 +1,8 @@
 // Random machines: tables over random bytes.
 use crate::brute::{Brute, image_of};
-use crate::image::{Image, build};
 use crate::random::Random;
 use build::Unbuilt;
+use images::Image;
 use machines::SlotTable;
 use std::alloc::{AllocError, Global};
 use std::io;
@@ -142,7 +142,7 @@ impl Tally {
         self.cases += 1;
         match (built, expected) {
             (Ok(image), Some(brute)) if image.cells == brute.image => {
-                self.count_states(image.states(), brute.codes);
+                self.count_states(image.states, brute.codes);
             }
             (Err(Unbuilt::TooMany), None) => self.too_many += 1,
             _ => self.mismatches += 1,
@@ -159,7 +159,7 @@ impl Tally {
         let machine = SlotTable::new(cells.as_slice(), shape, usize::from(ROOM));
         let most = usize::from(random.byte_below(9).saturating_add(4));
         let expected = image_of(alloc, &machine, most)?;
-        let built = build(alloc, &machine, most)?;
+        let built = Image::build(alloc, &machine, most)?;
         self.count(&built, &expected);
         Ok(())
     }

@@ -4,15 +4,13 @@
 
 mod bit_set;
 mod brute;
-mod fault;
 mod formula;
-mod image;
 mod machine_cases;
 mod random;
 mod small_tree;
 mod verdicts;
 
-use fault::Fault;
+use images::Fault;
 use machine_cases::{Tally, try_machines};
 use random::Random;
 use std::io;

@@ -1,11 +1,10 @@
 // Random rules: the verdicts of their built tables against set logic.
-use crate::fault::Fault;
 use crate::formula::{Formula, Truth, draw_formulas};
-use crate::image::{Image, build};
 use crate::random::Random;
 use crate::small_tree::{Tree, draw_tree};
 use atoms::{Atom, Below, Lab, Left, Right, Sing, Sub};
 use build::Unbuilt;
+use images::{Fault, Image};
 use layers::{Both, Either, Exists, Not};
 use machine::Machine;
 use machines::{SlotTable, judge};
@@ -39,7 +38,7 @@ impl Rules {
     }
 
     fn build<M: Machine>(&self, machine: &M) -> Result<Image, Fault> {
-        Ok(build(self.alloc, machine, Layout::MOST_STATES)??)
+        Ok(Image::build(self.alloc, machine, Layout::MOST_STATES).map_err(io::Error::from)??)
     }
 
     // Each atom's machine has a type of its own, so there is an arm for each.
@@ -129,8 +128,8 @@ impl Verdicts {
             self.rules += 1;
             match &rule.image {
                 Some(image) => {
-                    self.states += u64::from(image.states());
-                    self.most_states = self.most_states.max(image.states());
+                    self.states += u64::from(image.states);
+                    self.most_states = self.most_states.max(image.states);
                 }
                 None => self.unbuilt += 1,
             }

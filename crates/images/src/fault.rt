@@ -1,5 +1,4 @@
-// What stops the program: no memory, no output, a refusal where none is due, a table that is not built.
-// `bench` lists what it meets itself: derived as they are, a crate for both would be no plainer.
+// What stops a program that builds tables: no memory or output, a refusal where none is due, a table that is not built.
 use build::Unbuilt;
 use std::io;
 use thiserror::Error;
