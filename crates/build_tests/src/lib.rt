@@ -8,6 +8,7 @@ mod cleared;
 mod tests {
     use atoms::Sing;
     use build::{Unbuilt, build_table};
+    use images::Image;
     use layers::{Both, Exists};
     use machine::Machine;
     use std::alloc::{AllocError, Global};
@@ -86,6 +87,20 @@ mod tests {
             text.as_str(),
             "more codes are reached than there is room for\nthe shape, the number of states or the lent memory does not serve\n"
         );
+        Ok(())
+    }
+
+    #[test]
+    fn images_in_memory_from_the_heap(rt: HostRuntime) -> Result<(), Fail> {
+        let both = Both::new(Sing::new(SMALL, 0)?, Sing::new(SMALL, 1)?)?;
+        for (most, due) in [
+            (8, Err(Unbuilt::TooMany)),
+            (9, Ok(5)),
+            (33, Err(Unbuilt::Unserved)),
+        ] {
+            let built = Image::build(rt.alloc(), &both, most)?;
+            assert_eq!(rt; built.map(|image| image.states), due);
+        }
         Ok(())
     }
 }
