@@ -1,9 +1,7 @@
 -- How wide a slot is.
-use Rattle.std.proofs.Common.{◌≡◌, ℕ, suc, ◌+◌, ◌*◌, ◌^◌, ◌<◌, ◌≤◌, true, ◌&&◌, leb, mul-le-mul_right, arith, pow_mono}
+use Rattle.std.proofs.Common.{◌≡◌, ℕ, ◌+◌, ◌*◌, ◌^◌, ◌≤◌, true, arith, pow_mono}
 use Rattle.std.proofs.lemmas.Nat.{mul-le}
-use Rattle.std.proofs.lemmas.Bool.{and_parts, leb-true}
 use Rattle.trees.specs.declared.shape.Shape.{Shape}
-use Rattle.trees.specs.Shapes.{limits, within}
 use Rattle.trees.proofs.Limits.{bounds}
 use Rattle.tables.specs.Images.{width, Fits}
 use Rattle.racks.specs.declared.rack.Rack.{Rack}

@@ -1,5 +1,4 @@
 -- The row of an inner cell is one of the rows.
-use Rattle.std.proofs.Common.{arith}
 use Rattle.std.proofs.lemmas.Nat.{div_below}
 use Rattle.build.proofs.Sources.{square_pos}
 use Rattle.build.proofs.image.States.source.Goals as goal
