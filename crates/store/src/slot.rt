@@ -38,6 +38,7 @@ pub struct Slots<'a> {
 impl<'a> Slots<'a> {
     ghost use Rattle.store.specs.Checks.{Checked, IsSlots, IsSlot};
 
+    // The slots, where the rack is within its limits and the store has them all.
     pub fn open(rack: Rack, store: &'a [u8]) -> Result<Slots<'a>, Refusal>
         ensures { Checked (check_open rack store.now) (IsSlots rack store.now) result }
     {
@@ -62,6 +63,7 @@ impl<'a> Slots<'a> {
         }
     }
 
+    // The slot of a number, where there is one.
     pub fn find(self, number: usize) -> Result<Slot<'a>, Refusal>
         ensures { Checked (check_slot self.entry.rack number) (IsSlot self.entry.rack self.entry.store.now number) result }
     {
@@ -102,6 +104,7 @@ impl<'a> Slot<'a> {
         if states > 0 { Some(states) } else { None }
     }
 
+    // Refuses a slot that holds a table.
     pub fn free(self) -> Result<(), Refusal>
         ensures { Checked (check_free (is_taken self.entry.slots.rack self.entry.slots.store.now) self.entry.number) (λ _. ⊤) result }
     {
@@ -111,6 +114,7 @@ impl<'a> Slot<'a> {
         Ok(())
     }
 
+    // Refuses a slot that holds none.
     pub fn full(self) -> Result<(), Refusal>
         ensures { Checked (check_full (is_taken self.entry.slots.rack self.entry.slots.store.now) self.entry.number) (λ _. ⊤) result }
     {
@@ -155,6 +159,7 @@ impl Place {
         store[self.start..self.start + width].copy_from_slice(&bytes[..width]);
     }
 
+    // Zeroes the slot.
     pub fn clear(self, store: &mut [u8])
         requires { self.start + self.width ≤ length store.old }
         ensures { store.new ≡ put_place self (replicate self.width 0) store.old }
