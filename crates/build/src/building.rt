@@ -15,6 +15,7 @@ use machine::Machine;
 use slots::Layout;
 
 // Builds in the first cells, where the codes found are not too many.
+// Here and below the three slices stand apart: each is cut or guarded by itself on the way down.
 fn build_found<M: Machine>(
     machine: &M,
     layout: Layout,

@@ -30,7 +30,7 @@ fn index_of(found: &[u64], code: u64) -> Option<usize>
 impl Found<'_> {
     ghost use Rattle.build.specs.Discovery.{codes_found, Met, Full, Kept, Noted};
 
-    // The index of a code, where it is put as the last if it is new.
+    // The index of a code, where it is put as the last if it is new. There are at most 32, so the casts fit, which is proved.
     fn meet(&mut self, code: u64) -> Result<u8, TooMany>
         ensures kept { Kept self.old self.new }
         ensures cells { self.new.cells.now ≡ self.old.cells.now }

@@ -18,7 +18,7 @@ fn first_of(classes: &[u8], class: u8) -> Option<usize>
     classes.iter().position(|x| *x == class)
 }
 
-// The first index of each class.
+// The first index of each class. There are at most 32 codes, so the casts fit, which is proved.
 pub(crate) fn find_firsts(classes: &[u8], firsts: &mut [u8])
     requires few { length classes.now ≤ 32 }
     requires appears { Appears classes.now (length classes.now) (length firsts.old) }
@@ -105,6 +105,7 @@ impl States<'_> {
         requires classed { Classed (M.Machine.meaning machine.now) self.now.codes.now self.now.classes.now (length self.now.classes.now) (length self.now.firsts.now) }
         ensures { Built (M.Machine.meaning machine.now) self.now.layout.most (length self.now.firsts.now) cells.new }
     {
+        // at most 32, so the cast fits, which is proved
         cells[0] = self.firsts.len() as u8;
         let leaves = 1 + self.layout.most;
         let inners = leaves + self.layout.leaf_rows();

@@ -15,6 +15,7 @@ use machine::Machine;
 use slots::Layout;
 
 // A round: the cells of the steps over indices of codes, and the class of each index as the round begins.
+// Indices, label and marks stay plain numbers: what is asked of them is about this round, which a struct of them would hold again.
 #[derive(Clone, Copy)]
 struct Round<'a> {
     layout: Layout,

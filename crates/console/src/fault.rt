@@ -23,6 +23,7 @@ pub enum Fault {
     NoMemory,
 }
 
+// Conversions and texts are written out, as contracts name what they give: a derive does not say it.
 impl From<ParseIntError> for Fault {
     ghost from_gives = { λ error fault. fault ≡ fault_of (error_kind error) };
 

@@ -2,8 +2,8 @@
 use crate::bench::{Bench, Slot};
 use console::Fault;
 use rack::Atom;
-use std::fmt;
 use std::str::FromStr;
+use thiserror::Error;
 use trees::Refusal;
 
 #[derive(Clone, Copy)]
@@ -27,27 +27,12 @@ impl FromStr for Rule {
 }
 
 // Why a rule cannot be made for a shape.
-#[derive(Clone, Copy)]
+#[derive(Clone, Copy, Debug, Error)]
 pub enum Denial {
-    Refused(Refusal),
+    #[error("{0}")]
+    Refused(#[from] Refusal),
+    #[error("it speaks of programs with two leaf labels, contact 0 and coil 1")]
     NoLadder,
-}
-
-impl From<Refusal> for Denial {
-    fn from(refusal: Refusal) -> Denial {
-        Denial::Refused(refusal)
-    }
-}
-
-impl fmt::Display for Denial {
-    fn fmt<W: fmt::Write>(&self, f: &mut fmt::Formatter<W>) -> fmt::Result {
-        match self {
-            Denial::Refused(refusal) => write!(f, "{refusal}"),
-            Denial::NoLadder => f.write_str(
-                "it speaks of programs with two leaf labels, contact 0 and coil 1",
-            ),
-        }
-    }
 }
 
 // Puts the table of the rule in a slot of the bench, which is cleared first.

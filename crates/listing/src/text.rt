@@ -70,6 +70,7 @@ impl<'a> Slot<'a> {
         Some(Slot {
             bytes,
             layout,
+            // the casts here and at the marks are proved to fit: at most 32 states, at most 64 marks
             states: bytes[0].min(most as u8).max(1),
         })
     }
@@ -123,6 +124,7 @@ impl<'a> Slot<'a> {
     }
 
     // A line I: the inner cells of a label, marks and left state, one for each right state. They stand side by side.
+    // Label and marks stay plain numbers: they are of this slot's shape, which a struct of them would hold again.
     fn put_row<S: Sink>(&self, sink: &mut S, label: u8, marks: u8, left: u8)
         requires label { InnerLabel self.now.layout.shape label }
         requires marks { Marks self.now.layout.shape marks }

@@ -1,4 +1,6 @@
 // Which questions of a step are inside shape and count.
+// Each make of machine asks these itself: a wrapper around steps that ask nothing would be a second trait of the same five
+// questions.
 ghost use Rattle.std.specs.Prelude.{◌≡◌};
 ghost use Rattle.automata.specs.Atoms.{leaf_asked, inner_asked};
 

@@ -47,6 +47,7 @@ impl<'a, L> SlotBytes<'a, L> {
         self.bytes.get(at).copied().unwrap_or(0)
     }
 
+    // Rust has no `From` between `usize` and `u64`, so they are cast, here and below.
     fn states(&self) -> u64
         ensures { result ≡ states_of self.now.most self.now.bytes.now }
     {

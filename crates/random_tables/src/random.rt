@@ -21,7 +21,7 @@ impl Random {
         x >> 11
     }
 
-    // A number below `limit`, or 0 where there is none.
+    // A number below `limit`, or 0 where there is none: draws stay total, as an `Option` would only be unwrapped at each.
     pub fn below(&mut self, limit: u64) -> u64
         ensures { result ≤ limit }
     {
@@ -31,6 +31,7 @@ impl Random {
         self.next() % limit
     }
 
+    // the casts here and below fit, which is proved
     pub fn byte_below(&mut self, limit: u8) -> u8 {
         self.below(u64::from(limit)) as u8
     }

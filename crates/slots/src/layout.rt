@@ -73,6 +73,7 @@ impl Layout {
     }
 
     // The label, counted from the first of its kind, and the marks of a row.
+    // A cast that narrows is proved to fit: `u8::try_from` would give it an error that cannot come.
     pub fn step(self, row: usize) -> (u8, u8)
         requires { row < 512 }
         ensures label { result.0 ≡ row / 2 ^ self.shape.tracks }

@@ -1,4 +1,5 @@
 // Tables of automata: what a table says of its automaton, how it is found, and how it is written down.
+// Each function's contract is the statement that it stands for.
 #![tactic(auto)]
 
 ghost use Rattle.tables.specs.Theorems.{TablesAccept, Canonical, TableOfTable, FewestStates, AtomTables};

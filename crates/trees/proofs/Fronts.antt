@@ -11,7 +11,7 @@ use Rattle.trees.specs.Stacks.{grown}
 use Rattle.trees.specs.Reading.{check, or_else, node_refusal, opened, rest_refusal, first_refusal, GoesOn, front, AtNode, Stops, Reads, Answers, refusal}
 use Rattle.trees.proofs.Limits.{bounds}
 use Rattle.trees.proofs.Turns.{passed, fine, grown_length, opened_pos}
-use Rattle.trees.proofs.Listed.{above_join, spelled, Held, held_grown, spelled_grown, read_listing, listed, one_tree}
+use Rattle.trees.proofs.Listed.{free_at, above_join, spelled, Held, held_grown, spelled_grown, read_listing, listed, one_tree}
 
 -- the first n + 1 nodes begin with a node
 front_more : (n a m : ℕ) (bs : List ℕ) → front (suc n) (a ∷ m ∷ bs) ≡ a ∷ m ∷ front n bs
@@ -39,13 +39,13 @@ module _ (sh : Shape) (room : ℕ → Bool) where
   -- held parts can be joined to one tree, whatever their number
   closes : 1 ≤ sh.inners → (t : Tree) (ts : List Tree) → Held sh room (t ∷ ts) → GoesOn sh room (spelled (t ∷ ts) [])
   closes i t [] h =
-      (t, [], h.0, (λ p l. subst (λ (x : ℕ). room x ≡ true) (omega arith) (h.1 p l)), append-nil (listing t ++ []) ∙ append-nil (listing t))
+      (t, [], h.0, (λ p l. free_at room (omega arith) (h.1 p l)), append-nil (listing t ++ []) ∙ append-nil (listing t))
   closes i t (u ∷ ts) h =
       let top = inner sh.leaves 0 u t in
       let held : Held sh room (top ∷ ts)
       = (
         ((omega arith, omega arith), pow_pos sh.tracks, h.2.0, h.0),
-        above_join sh room (length ts) sh.leaves 0 u t h.2.1 (λ p l. subst (λ (x : ℕ). room x ≡ true) (omega arith) (h.1 p l)),
+        above_join sh room (length ts) sh.leaves 0 u t h.2.1 (λ p l. free_at room (omega arith) (h.1 p l)),
         h.2.2,
       ) in
       let on = closes i top ts held in (

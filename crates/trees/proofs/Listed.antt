@@ -14,6 +14,10 @@ use Rattle.trees.proofs.Turns.{passed, Fine, fine, grown_length}
 holds_check : (ok : Bool) (e : Refusal) (rest : Option Refusal) → ok ≡ true → check ok e rest ≡ rest
 holds_check ok e rest h = ap (λ (b : Bool). check b e rest) h
 
+-- a free place, by another name of its number
+pub free_at : (room : ℕ → Bool) {n m : ℕ} → n ≡ m → room n ≡ true → room m ≡ true
+free_at room e h = subst (λ (x : ℕ). room x ≡ true) e h
+
 -- the listing of an inner node, and what follows it
 pub listing_then : (a m : ℕ) (l r : Tree) (rest : List ℕ) → listing (inner a m l r) ++ rest ≡ listing l ++ (listing r ++ (a ∷ m ∷ rest))
 listing_then a m l r rest =
@@ -54,7 +58,7 @@ module _ (sh : Shape) (room : ℕ → Bool) where
   above_left n a m l r f p h = f p (omega arith)
 
   above_right : (n a m : ℕ) (l r : Tree) → Above n (inner a m l r) → Above (n + 1) r
-  above_right n a m l r f p h = subst (λ (x : ℕ). room x ≡ true) (omega arith) (f (1 + p) (omega arith))
+  above_right n a m l r f p h = free_at room (omega arith) (f (1 + p) (omega arith))
 
   pub above_join : (n a m : ℕ) (l r : Tree) → Above n l → Above (n + 1) r → Above n (inner a m l r)
   above_join n a m l r f g p h = go (ltb p (stack_need l)) refl
@@ -64,7 +68,7 @@ module _ (sh : Shape) (room : ℕ → Bool) where
       go false e =
           let past_l : stack_need l ≤ p = ltb-false p (stack_need l) e in
           let one : 1 ≤ p = omega (arith, need_pos l) in
-          subst (λ (x : ℕ). room x ≡ true) (omega arith) (g (p - 1) (omega arith))
+          free_at room (omega arith) (g (p - 1) (omega arith))
         where
           need_pos : (t : Tree) → 1 ≤ stack_need t
           need_pos (leaf a m) = omega arith
@@ -74,7 +78,7 @@ module _ (sh : Shape) (room : ℕ → Bool) where
   pub past_tree : (t : Tree) → Shaped sh t → (k n : ℕ) (rest : List ℕ) → Above n t
       → rest_refusal sh room k n (listing t ++ rest) ≡ rest_refusal sh room (k + size t) (n + 1) rest
   past_tree (leaf a m) h k n rest f =
-      past_leaf k n a m rest h.0 h.1 (subst (λ (x : ℕ). room x ≡ true) (omega arith) (f 0 (omega arith)))
+      past_leaf k n a m rest h.0 h.1 (free_at room (omega arith) (f 0 (omega arith)))
   past_tree (inner a m l r) h k n rest f =
       ap (rest_refusal sh room k n) (listing_then a m l r rest)
       ∙ (past_tree l h.2 k n (listing r ++ (a ∷ m ∷ rest)) (above_left n a m l r f)
@@ -85,7 +89,7 @@ module _ (sh : Shape) (room : ℕ → Bool) where
   pub read_listing : (t : Tree) → Shaped sh t → Stacked room t → rest_refusal sh room 0 0 (listing t) ≡ None
   read_listing t h f =
       ap (rest_refusal sh room 0 0) (sym (append-nil (listing t)))
-      ∙ past_tree t h 0 0 [] (λ p l. subst (λ (x : ℕ). room x ≡ true) (omega arith) (f p l))
+      ∙ past_tree t h 0 0 [] (λ p l. free_at room (omega arith) (f p l))
 
 -- the bytes of open parts, the newest first, and of what follows them
 abbrev pub spelled : List Tree → List ℕ → List ℕ
@@ -107,13 +111,13 @@ module _ (sh : Shape) (room : ℕ → Bool) where
       joined g (t ∷ []) h two = absurd (omega arith)
       joined g (r ∷ l ∷ us) h two = (
         ((g, f.known), f.marked, h.2.0, h.0),
-        above_join sh room (length us) a m l r h.2.1 (λ p q. subst (λ (x : ℕ). room x ≡ true) (omega arith) (h.1 p q)),
+        above_join sh room (length us) a m l r h.2.1 (λ p q. free_at room (omega arith) (h.1 p q)),
         h.2.2,
       )
 
       go : (b : Bool) → ltb a sh.leaves ≡ b → Held (cond b (leaf a m ∷ ts) (under a m ts))
       go true e =
-          ((ltb-true a sh.leaves e, f.marked), (λ p q. subst (λ (x : ℕ). room x ≡ true) (omega arith) (f.finds e)), held)
+          ((ltb-true a sh.leaves e, f.marked), (λ p q. free_at room (omega arith) (f.finds e)), held)
       go false e = joined (ltb-false a sh.leaves e) ts held (f.joins e)
 
   pub spelled_grown : (a m : ℕ) (ts : List Tree) (rest : List ℕ) → Fine sh room (length ts) a m → spelled (grown sh.leaves a m ts) rest ≡ spelled ts (a ∷ m ∷ rest)
@@ -142,7 +146,7 @@ module _ (sh : Shape) (room : ℕ → Bool) where
     where
       one : (us : List Tree) → Held us → length us ≡ 1 → Whole (spelled us [])
       one [] h l = absurd (omega arith)
-      one (t ∷ []) h l = (t, h.0, (λ p q. subst (λ (x : ℕ). room x ≡ true) (omega arith) (h.1 p q)), append-nil (listing t))
+      one (t ∷ []) h l = (t, h.0, (λ p q. free_at room (omega arith) (h.1 p q)), append-nil (listing t))
       one (t ∷ u ∷ us) h l = absurd (omega arith)
   read_held (a ∷ []) ts k held e = cc
   read_held (a ∷ m ∷ bs) ts k held e =
