@@ -29,7 +29,7 @@ pub(crate) fn build_in<M: Machine>(
     }
 }
 
-// The same for an atom's machine, where it is made.
+// The same for an atom's machine, where it is made. Six types of machine: each arm makes its own.
 pub(crate) fn build_atom(
     slot: Slot<'_>,
     atom: Atom,

@@ -16,6 +16,7 @@ pub fn filled<'a>(rack: Rack, store: &'a [u8], number: usize) -> Result<Slot<'a>
     Ok(slot)
 }
 
+// Apart from `each_full`: this loop finds out that the slots exist, which that one asks.
 fn each_exists(slots: Slots<'_>, numbers: &[usize]) -> Result<(), Refusal>
     ensures { Checked (check_slots slots.entry.rack numbers.now) (λ _. All (λ k. k < slots.entry.rack.slots) numbers.now) result }
 {
