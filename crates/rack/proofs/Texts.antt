@@ -59,7 +59,7 @@ slot_listable s = and_from (fits s.slots.rack.shape s.slots.rack.most) _ (limits
     long =
         let end = ends s.slots.width s.number s.slots.rack.slots s.there in
         let low : s.number * slot_bytes s.slots.rack + slot_bytes s.slots.rack ≤ length s.slots.store.now =
-            subst (λ (n : ℕ). s.number * n + n ≤ length s.slots.store.now) s.slots.is (omega (arith, end, s.slots.room)) in
+        subst (λ (n : ℕ). s.number * n + n ≤ length s.slots.store.now) s.slots.is (omega (arith, end, s.slots.room)) in
         simp (length-take, length-drop) (omega arith)
 
 pub list_logged : (R : Rack) (store : List ℕ) (k room : ℕ) (r : Result ℕ Refusal) (buffer : List ℕ) → Done R (call_list k room) store store (listed_by r buffer)
