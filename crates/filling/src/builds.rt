@@ -22,6 +22,7 @@ pub(crate) fn build_in<M: Machine>(
     ensures same { SameMemory working.old working.new }
 {
     let most = slot.slots.rack.most;
+    // neither type is of this crate, so there is no `From` between them
     match build_table(machine, most, working.codes, working.cells, working.classes) {
         Ok(_) => Ok(slot.place()),
         Err(Unbuilt::TooMany) => Err(refused(Reason::TooManyStates)),

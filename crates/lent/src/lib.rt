@@ -3,7 +3,8 @@
 
 ghost use Rattle.std.specs.Prelude.{◌≡◌, length, replicate};
 
-// A number that memory is cleared with. `Default` says what holds of its value, and not which it is.
+// A number that memory is cleared with. `Default` says what holds of its value, and not which it is; a crate of number
+// traits would stand below every other for this one.
 pub trait Zero: Copy {
     ghost null: { Self };
 
@@ -44,6 +45,7 @@ impl<T: Zero> Drop for Cleared<'_, T> {
     fn drop(self)
         ensures { self.exit.0.now ≡ replicate (length self.entry.cells.now) T.Zero.null }
     {
+        // not `fill`, which asks a law of `clone` that a type parameter does not give
         let zero = T::zero();
         self.cells.fill_with(move || zero);
         let Cleared { cells: _ } = self;

@@ -26,7 +26,8 @@ impl Sink for Counter {
     }
 }
 
-// Writes the bytes one after another, and none past the buffer's end.
+// Writes the bytes one after another, and none past the buffer's end. The buffer is lent, and the place is where the next
+// byte goes.
 #[derive(Drop)]
 pub(crate) struct Writer<'a> {
     pub(crate) buffer: &'a mut [u8],

@@ -1,6 +1,6 @@
 // Which questions of a step are inside shape and count.
-// Each make of machine asks these itself: a wrapper around steps that ask nothing would be a second trait of the same five
-// questions.
+// Each make of machine asks these itself, in a line: a wrapper around steps that ask nothing would be a second trait of the
+// same five questions, and a step as a closure is longer than its guard.
 ghost use Rattle.std.specs.Prelude.{◌≡◌};
 ghost use Rattle.automata.specs.Atoms.{leaf_asked, inner_asked};
 

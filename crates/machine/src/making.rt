@@ -5,8 +5,8 @@ ghost use Rattle.machine.specs.Making.{refusal};
 
 use trees::{Origin, Reason, Refusal};
 
-// A reason alone does not make a refusal, so there is no `From`: other layers have the same reasons with other origins. Each
-// layer names its own here or in a function of its own, of which the struct is all.
+// A reason alone does not make a refusal, so there is no `From`: other layers have the same reasons with other origins. One
+// constructor for all would take the origin at each call, where a layer names its own once.
 pub fn refused(reason: Reason) -> Refusal
     ensures { result ≡ refusal reason }
 {

@@ -107,10 +107,12 @@ impl<'a, L: Limits> Machine for SlotBytes<'a, L> {
     }
 }
 
+// What a table means, in its own words.
 pub fn table_means<'a>(table: &Table<'a>)
     ensures { ⟦<Table<'a> as Machine>⟧.meaning table.now ≡ slot_automaton table.now.shape table.now.most table.now.bytes.now }
 {}
 
+// What a slot's table means, in its own words.
 pub fn slot_table_means<'a>(table: &SlotTable<'a>)
     ensures { ⟦<SlotTable<'a> as Machine>⟧.meaning table.now ≡ layout_automaton table.now.shape table.now.most table.now.bytes.now }
 {}

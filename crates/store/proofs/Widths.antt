@@ -14,7 +14,7 @@ small N a b n h k =
     let v : b * N * N ≤ 256 * 32 * 32 = mul-le (b * N) N (256 * 32) 32 u n in
     omega arith
 
-width_small : (sh : Shape) (N : ℕ) → Fits sh N → width sh N ≤ 262689
+pub width_small : (sh : Shape) (N : ℕ) → Fits sh N → width sh N ≤ 262689
 width_small sh N f =
     let b = bounds sh f.shape in
     let p : 2 ^ sh.tracks ≤ 64 = pow_mono {i = sh.tracks} {j = 6} b.tracks.1 in

@@ -4,7 +4,7 @@ ghost use Rattle.racks.specs.Calls.{by_rack};
 
 use trees::{Origin, Reason, Refusal};
 
-// As in the layers below, which have other origins.
+// One for each layer, as one for all would take the origin at each call.
 pub fn refused(reason: Reason) -> Refusal
     ensures { result ≡ by_rack reason }
 {

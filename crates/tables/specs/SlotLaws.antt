@@ -21,7 +21,7 @@ fits_few sh N e = (fits_facts sh N e).few
 states_pos : (N : ℕ) (bs : List ℕ) → 1 ≤ states_of N bs
 states_pos N bs = omega arith
 
-states_few : (N : ℕ) (bs : List ℕ) → N ≤ 32 → states_of N bs ≤ 32
+pub states_few : (N : ℕ) (bs : List ℕ) → N ≤ 32 → states_of N bs ≤ 32
 states_few N bs h = omega arith
 
 kept_lt : (c x : ℕ) → 1 ≤ c → kept c x < c

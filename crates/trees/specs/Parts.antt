@@ -3,8 +3,8 @@
 --   places xs         room for as many parts as xs has places
 --   ValuesOf P xs ts  the stack xs has at the place of each open part of ts, the oldest at place 0, a value of which P holds
 --   capped            a number of nodes as 16 bits hold it
---   RightAbove P xs ts   where the newest part is an inner node, the place above it has a value of which P holds with its right part
---   Held P xs ts      both
+--   RightAbove P xs ts    where the newest part is an inner node, the place above it has a value of which P holds with its right part
+--   Held P xs ts      xs holds the values of ts, and that of the newest part's right part above
 --   Heads t r         r is the root of t, with the listings of its parts
 --   Shorter r n       the listings of the parts are shorter than n bytes by the root's own two
 use Rattle.std.specs.Prelude.{◌≡◌, ℕ, ◌+◌, ◌<◌, min, Bool, List, [], ◌∷◌, length, nat_lt, slice_index_or}

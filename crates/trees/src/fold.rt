@@ -8,6 +8,7 @@ pub struct NoRoom;
 
 // A stack of open parts, in memory that its maker was lent. The reader says how many parts are open. Label and marks
 // stand apart, as in a tree's constructors: each node is taken apart at once, so a struct of both would only be unpacked.
+// That `room` stays is said of each step, as a type cannot compare two moments.
 pub trait Fold {
     // whether there is a free place for one more part, by the number of open parts
     ghost room: { Self → ℕ → Bool };

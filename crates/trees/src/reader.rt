@@ -11,6 +11,7 @@ use crate::shape::Shape;
 // The longest listing, in bytes.
 pub const LONGEST: usize = 8192;
 
+// The refusals of this layer; others have an origin of their own.
 fn refused(reason: Reason, place: usize) -> Refusal
     ensures { result ≡ record { reason = reason; place = place; origin = Origin.Trees } }
 {
@@ -21,7 +22,8 @@ fn refused(reason: Reason, place: usize) -> Refusal
     }
 }
 
-// How far a reading is: the number of nodes that are read, and of parts that are open.
+// How far a reading is: the number of nodes that are read, and of parts that are open. Shape and fold stay arguments: held
+// here, each clause would have to say that they are still the same.
 #[derive(Clone, Copy)]
 struct Reading {
     place: usize,
@@ -80,7 +82,7 @@ fn read_nodes<F: Fold>(shape: Shape, listing: &[u8], fold: &mut F) -> Result<(),
         place: 0,
         height: 0,
     };
-    // the pattern names a node's two bytes; a chunk of the listing would be a slice again
+    // each node is split off the front, as a listing is defined: label, marks, rest
     let mut bytes = listing;
     while let [label, marks, rest @ ..] = bytes {
         reading.read_node(shape, fold, *label, *marks)?;

@@ -1,5 +1,5 @@
 // Why a call is refused: the reason, the place, and the layer where the refusal arose.
-ghost use Rattle.std.specs.Prelude.{◌≡◌};
+ghost use Rattle.std.specs.Prelude.{◌≡◌, ◌==◌};
 ghost use Rattle.trees.specs.Refusals.{number};
 
 use std::fmt;
@@ -34,7 +34,8 @@ pub enum Origin {
     Rack,
 }
 
-// `place` is a node's number from 0 where the reason is about a node, the number of nodes for `NotOneTree`, else 0.
+// `place` is a node's number from 0 where the reason is about a node, the number of nodes for `NotOneTree`, else 0: each
+// refusal has a number, a place and an origin, whatever it is about.
 #[derive(Clone, Copy, PartialEq, Eq, Debug)]
 pub struct Refusal {
     pub reason: Reason,
@@ -48,8 +49,16 @@ impl Reason {
     {
         self as u8
     }
+
+    // Reasons are equal exactly where their numbers are.
+    pub fn is(self, other: Reason) -> bool
+        ensures { result ≡ (number self == number other) }
+    {
+        self == other
+    }
 }
 
+// The texts are written out: a derive of them would put a crate of macros below every other.
 impl fmt::Display for Reason {
     fn fmt<W: fmt::Write>(&self, f: &mut fmt::Formatter<W>) -> fmt::Result {
         f.write_str(match self {

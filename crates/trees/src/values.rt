@@ -31,6 +31,7 @@ impl<V: Copy, A: Algebra<V>> Fold for Values<'_, A, V> {
     ghost holds = { λ b s ts. (s.algebra ≡ b.algebra) × Held (λ v t. A.comes_to b.algebra t v) s.stack.now ts };
 
     fn add_leaf(&mut self, height: usize, label: u8, marks: u8) -> Result<(), NoRoom> {
+        // by index: of what is written through `get_mut` a proof would learn the length alone
         if height >= self.stack.len() {
             return Err(NoRoom);
         }

@@ -7,11 +7,6 @@ use Rattle.build.proofs.Sources.{source_lt, source_index, source_ge, byte_of_sta
 use Rattle.build.proofs.image.States.put_inners.Goals as goal
 use Rattle.build.proofs.image.States.put_inners.Goals.{in-Some, in-None}
 
-pub source-requires : goal.source-requires
-source-requires c =
-    let l = c.args.self.now.layout in
-    subst (λ (r : ℕ). c.loop-j.j < r * (l.most * l.most)) c.inner_rows.ensures.is c.loop-j-test.true
-
 pub bounds-cells-from : goal.bounds-cells-from
 bounds-cells-from c =
     let s = c.args.self.now in
@@ -42,8 +37,3 @@ loop-j-preserved c =
           (c.loop-j.invariant.outside _ (inr (omega (arith, late, w.in-Some.ensures.1)))) (w.cells-is ∙ ap (class_at s.classes.now) w.from.ensures)
       | in-None w ↦ byte_of_none s.layout (length s.firsts.now) c.args.cells.now s.classes.now s.firsts.now c.loop-j.j _ w.in-None.ensures w.cells-is
     ])
-
-pub returns : goal.returns
-returns c =
-    let l = c.args.self.now.layout in
-    filled_at (ap (λ (r : ℕ). r * (l.most * l.most)) c.inner_rows.ensures.is) (filled_at (omega (arith, c.loop-j-test.false, c.loop-j.auto.j-end)) c.loop-j.invariant)
