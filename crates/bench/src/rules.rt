@@ -140,6 +140,7 @@ impl Bench<'_> {
     // on, which makes them as large as so many sets can be.
     fn leaves_image(self) -> io::Result<Image> {
         let layout = self.layout;
+        // fits, as a layout has 32 states at most
         let states = layout.most as u8;
         let last = states - 1;
         let mut cells = vec![in self.rt.alloc(); states]?;

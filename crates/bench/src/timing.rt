@@ -16,7 +16,7 @@ fn checksum(bytes: &[u8]) -> u64 {
 pub struct Bench<'a> {
     pub rt: &'a HostRuntime,
     pub layout: Layout,
-    // the program's argument `times`
+    // the program's argument `times`, known as it runs
     pub timed: bool,
 }
 
@@ -27,7 +27,7 @@ impl Bench<'_> {
     }
 
     pub fn image<M: Machine>(self, machine: &M) -> Result<Image, Fault> {
-        Ok(Image::build(self.rt.alloc(), machine, self.layout.most).map_err(io::Error::from)??)
+        Image::build(self.rt.alloc(), machine, self.layout.most)
     }
 
     fn time<M: Machine>(self, machine: &M, cells: &mut [u8]) -> io::Result<Duration> {

@@ -8,7 +8,7 @@ mod cleared;
 mod tests {
     use atoms::Sing;
     use build::{Unbuilt, build_table};
-    use images::Image;
+    use images::{Fault, Image};
     use layers::{Both, Exists};
     use machine::Machine;
     use std::alloc::{AllocError, Global};
@@ -98,8 +98,12 @@ mod tests {
             (9, Ok(5)),
             (33, Err(Unbuilt::Unserved)),
         ] {
-            let built = Image::build(rt.alloc(), &both, most)?;
-            assert_eq!(rt; built.map(|image| image.states), due);
+            let built = match Image::build(rt.alloc(), &both, most) {
+                Ok(image) => Ok(image.states),
+                Err(Fault::Unbuilt(why)) => Err(why),
+                Err(_) => return Err(Fail::new("memory for an image")),
+            };
+            assert_eq!(rt; built, due);
         }
         Ok(())
     }

@@ -10,6 +10,6 @@ pub enum Fault {
     Io(#[from] io::Error),
     #[error("{0}")]
     Refused(#[from] Refusal),
-    #[error("a table is not built: {0:?}")]
+    #[error("a table is not built: {0}")]
     Unbuilt(#[from] Unbuilt),
 }

@@ -1,14 +1,16 @@
 // The image of a machine's table, with the layout that says where each byte stands.
-ghost use Rattle.std.specs.Prelude.{◌≡◌, length, IfOk, MatchResult, ⊤};
+ghost use Rattle.std.specs.Prelude.{◌≡◌, length, IfOk, IfErr};
 ghost use Rattle.tables.specs.Slots.{slot_automaton};
 ghost use Rattle.build.specs.Imaging.{Built};
 ghost use Rattle.build.specs.Building.{Answers};
 
+use crate::fault::Fault;
 use build::{Unbuilt, build_table};
 use machine::Machine;
 use machines::SlotTable;
 use slots::Layout;
-use std::alloc::{AllocError, Global};
+use std::alloc::Global;
+use std::io;
 
 // Builds the table in these cells, with memory for the codes and classes of as many states as a table may have.
 pub fn build_in<M: Machine>(machine: &M, most: usize, cells: &mut [u8]) -> Result<u8, Unbuilt>
@@ -28,28 +30,26 @@ pub struct Image {
 }
 
 impl Image {
-    ghost use Rattle.images.specs.Built.{IsImage, Due};
+    ghost use Rattle.images.specs.Built.{IsImage, Told};
 
     // The image of the machine's table, with room for `most` states.
-    pub fn build<M: Machine>(
-        alloc: Global,
-        machine: &M,
-        most: usize,
-    ) -> Result<Result<Image, Unbuilt>, AllocError>
-        ensures { MatchResult result (λ built. MatchResult built (λ image. IsImage (M.Machine.meaning machine.now) most image) (λ why. Due (M.Machine.meaning machine.now) most why)) (λ _. ⊤) }
+    pub fn build<M: Machine>(alloc: Global, machine: &M, most: usize) -> Result<Image, Fault>
+        ensures built { IfOk result (IsImage (M.Machine.meaning machine.now) most) }
+        ensures told { IfErr result (Told (M.Machine.meaning machine.now) most) }
     {
+        // each fault is made by name, as a derived `From` does not say which it gives
         let Some(layout) = Layout::new(machine.shape(), most) else {
-            return Ok(Err(Unbuilt::Unserved));
+            return Err(Fault::Unbuilt(Unbuilt::Unserved));
         };
-        let mut cells = vec![in alloc; 0u8; layout.width()]?;
-        match build_in(machine, most, cells.as_mut_slice()) {
-            Ok(states) => Ok(Ok(Image {
-                layout,
-                states,
-                cells,
-            })),
-            Err(why) => Ok(Err(why)),
-        }
+        let mut cells = vec![in alloc; 0u8; layout.width()].map_err(|fault| Fault::Io(
+            io::Error::from(fault),
+        ))?;
+        let states = build_in(machine, most, cells.as_mut_slice()).map_err(Fault::Unbuilt)?;
+        Ok(Image {
+            layout,
+            states,
+            cells,
+        })
     }
 
     // The image read as a machine.

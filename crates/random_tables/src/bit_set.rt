@@ -19,6 +19,7 @@ impl BitSet {
     }
 
     pub fn len(self) -> usize {
+        // Rust has no `From` between `u32` and `usize`
         self.bits.count_ones() as usize
     }
 

@@ -132,7 +132,7 @@ impl<'m, M: Machine> Steps<'m, M> {
     }
 }
 
-// Of each code, those that are told apart from it.
+// Of each code, those that are told apart from it. (Rust has no `From` between `u64` and `usize`, so codes are cast.)
 #[derive(Clone, Copy, PartialEq)]
 struct Told {
     rows: [BitSet; CODES],
@@ -157,16 +157,15 @@ struct Classes<'s, 'm, M> {
 }
 
 impl<M: Machine> Classes<'_, '_, M> {
-    // The number of the code's class, or the next one where the class is not met yet.
-    fn class_of(&self, code: u64) -> usize {
+    // The number of the code's class, where it is met.
+    fn class_of(&self, code: u64) -> Option<usize> {
         self.firsts
             .iter()
             .position(|first| !self.told.has(*first, code))
-            .unwrap_or(self.firsts.len())
     }
 
     fn meet(&mut self, code: u64) -> Result<(), AllocError> {
-        if self.class_of(code) == self.firsts.len() {
+        if self.class_of(code).is_none() {
             self.firsts.push(code)?;
         }
         Ok(())
@@ -212,8 +211,11 @@ impl<M: Machine> Classes<'_, '_, M> {
         Ok(())
     }
 
+    // A code of no class that is met would show as a state that no table has.
     fn byte_of(&self, code: u64) -> u8 {
-        u8::try_from(self.class_of(code)).unwrap_or(u8::MAX)
+        self.class_of(code)
+            .and_then(|class| u8::try_from(class).ok())
+            .unwrap_or(u8::MAX)
     }
 
     // Of two states the class of their step, else 0.

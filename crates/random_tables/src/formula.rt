@@ -102,6 +102,7 @@ impl Truth {
     }
 
     pub fn get(&self, marking: u64) -> Option<bool> {
+        // Rust has no `From` between `u64` and `usize`
         self.holds.get(marking as usize).copied()
     }
 }

@@ -38,7 +38,7 @@ impl Rules {
     }
 
     fn build<M: Machine>(&self, machine: &M) -> Result<Image, Fault> {
-        Ok(Image::build(self.alloc, machine, Layout::MOST_STATES).map_err(io::Error::from)??)
+        Image::build(self.alloc, machine, Layout::MOST_STATES)
     }
 
     // Each atom's machine has a type of its own, so there is an arm for each.
