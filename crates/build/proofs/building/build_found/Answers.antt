@@ -1,6 +1,7 @@
 -- There are as many classes as codes found.
 use Rattle.std.proofs.Common.{arith}
 use Rattle.std.proofs.lemmas.List.{length-take}
+use Rattle.build.proofs.Ends.{discovered_at}
 use Rattle.build.proofs.building.build_found.Goals as goal
 
 pub find_firsts-requires-clause-appears : goal.find_firsts-requires-clause-appears

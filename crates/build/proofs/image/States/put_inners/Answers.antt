@@ -2,7 +2,7 @@
 use Rattle.std.proofs.Common.{ℕ, ◌*◌, ◌<◌, length, get_or, ap, subst, inr, ◌∙◌, mul_assoc, arith}
 use Rattle.tables.specs.Images.{inner_rows}
 use Rattle.build.specs.Refinement.{class_at}
-use Rattle.build.proofs.Fills.{filled_more}
+use Rattle.build.proofs.Fills.{filled_more, filled_at}
 use Rattle.build.proofs.Sources.{source_lt, source_index, source_ge, byte_of_states, byte_of_none}
 use Rattle.build.proofs.image.States.put_inners.Goals as goal
 use Rattle.build.proofs.image.States.put_inners.Goals.{in-Some, in-None}

@@ -27,3 +27,9 @@ loop-x-preserved c =
           (written_other _ _ _ _ w.next-is) w.in-None.ensures
           (written_same c.loop-x.next c.match-partner.next c.loop-x.x _ w.next-is (omega (arith, c.requires, c.loop-x.auto.next, c.loop-x-test.true))))
     ]
+
+pub returns : goal.returns
+returns c =
+    let r = c.args.self.now in
+    subst (λ (n : ℕ). Numbering (Agreed r.layout (length r.classes.now) r.cells.now r.classes.now) (class_at c.loop-x.next) n c.loop-x.count)
+    (omega (arith, c.loop-x-test.false, c.loop-x.auto.x-end)) c.loop-x.invariant
