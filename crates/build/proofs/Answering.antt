@@ -1,9 +1,8 @@
 -- What a build in the image's cells leaves is what the whole build answers.
-use Rattle.std.proofs.Common.{Result, Ok, Err, ◌≡◌, ℕ, ◌*◌, ◌≤◌, true, List, ◌++◌, length, take, drop, replicate, sym, ap, ◌∙◌, subst, ap₂, arith}
+use Rattle.std.proofs.Common.{Result, Ok, Err, ◌≡◌, ℕ, true, List, ◌++◌, length, take, drop, replicate, sym, ap, ◌∙◌, subst, ap₂, arith}
 use Rattle.std.proofs.lemmas.List.{take_at, drop_at, take_all}
-use Rattle.std.proofs.lemmas.Bool.{and_from, le-leb}
+use Rattle.std.proofs.lemmas.Bool.{and_parts}
 use Rattle.automata.specs.Automata.{Automaton}
-use Rattle.tables.specs.Images.{fits}
 use Rattle.tables.specs.Canonical.{TableIn}
 use Rattle.tables.proofs.Slots.{canonical_slot}
 use Rattle.build.specs.Building.{image_width, Leaves, Answers}
@@ -11,13 +10,8 @@ use Rattle.build.specs.Imaging.{serves}
 use Rattle.build.specs.declared.unbuilt.Unbuilt.{Unbuilt}
 use Rattle.build.specs.declared.unbuilt.Unbuilt.TheVariants.{TooMany, Unserved}
 
-module _ (M : Automaton) (N codes classes : ℕ) (before image : List ℕ) (w n : ℕ) (ok : fits M.shape N ≡ true)
-    (c : N ≤ codes) (b : w ≤ length before) (k : 2 * N ≤ classes) (e : w ≡ image_width M N) (f : length image ≡ w) (i : n ≡ w) where
-  served : serves M N codes (length before) classes ≡ true
-  served =
-      and_from _ _ ok
-      (and_from _ _ (le-leb N codes c) (and_from _ _ (le-leb (image_width M N) (length before) (omega (arith, e, b))) (le-leb (2 * N) classes k)))
-
+module _ (M : Automaton) (N codes classes : ℕ) (before image : List ℕ) (w n : ℕ) (served : serves M N codes (length before) classes ≡ true)
+    (e : w ≡ image_width M N) (f : length image ≡ w) (i : n ≡ w) where
   front : take (image_width M N) (image ++ drop w before) ≡ take (image_width M N) image
   front = take_at image (drop w before) (image_width M N) (f ∙ e) ∙ sym (take_all (image_width M N) image (omega (arith, e, f)))
 
@@ -27,7 +21,7 @@ module _ (M : Automaton) (N codes classes : ℕ) (before image : List ℕ) (w n 
   pub answers : (r : Result ℕ Unbuilt) → Leaves M N n image r → Answers M N codes classes before (image ++ drop w before) r
   answers (Ok s) h =
       let t = subst (TableIn M N s) (sym front) h.table in
-      record { served = served; enough = h.enough; table = t; canonical = canonical_slot M N s _ ok t; rest = back }
+      record { served = served; enough = h.enough; table = t; canonical = canonical_slot M N s _ (and_parts _ _ served).0 t; rest = back }
   answers (Err TooMany) h = (
     served,
     h.0,

@@ -1,5 +1,8 @@
 -- What a build answers, and what it leaves in the cells.
 -- Words:
+--   Builds M N codes cells classes after r
+--                                 what a build with so much memory lent says by r: where numbers and memory serve, that the first cells are the image of M's table,
+--                                 which has k states, or TooMany, where more than N codes are reached; Unserved where they do not serve
 --   image_width M N               the number of bytes of an image of M's table
 --   Imaged M N k bs               bs is the image of M's table, which has k states, and no more than N codes are reached
 --   Leaves M N n after r          what is in n cells after a build in them: where k states are answered the image of M's table, on TooMany zeros; Unserved is no answer
@@ -13,9 +16,14 @@ use Rattle.automata.specs.Automata.{Automaton}
 use Rattle.tables.specs.Tables.{TooMany as TooManyCodes}
 use Rattle.tables.specs.Images.{width}
 use Rattle.tables.specs.Canonical.{TableIn, CanonicalSlot}
-use Rattle.build.specs.Imaging.{serves}
+use Rattle.build.specs.Imaging.{serves, Built}
 use Rattle.build.specs.declared.unbuilt.Unbuilt.{Unbuilt}
 use Rattle.build.specs.declared.unbuilt.Unbuilt.TheVariants.{TooMany, Unserved}
+
+abbrev pub Builds : Automaton → ℕ → ℕ → ℕ → ℕ → List ℕ → Result ℕ Unbuilt → Type 0
+Builds M N codes cells classes after (Ok k) = (serves M N codes cells classes ≡ true) × Built M N k after
+Builds M N codes cells classes after (Err TooMany) = (serves M N codes cells classes ≡ true) × TooManyCodes M N
+Builds M N codes cells classes after (Err Unserved) = serves M N codes cells classes ≡ false
 
 abbrev pub image_width : Automaton → ℕ → ℕ
 image_width M N = width M.shape N

@@ -1,9 +1,9 @@
 // A machine's table, built in lent memory: its codes are discovered, refined into classes, and written as an image.
-ghost use Rattle.std.specs.Prelude.{◌≡◌, ◌*◌, ◌≤◌, length, replicate, IfOk, MatchResult};
+ghost use Rattle.std.specs.Prelude.{◌≡◌, ◌*◌, ◌≤◌, true, false, length, replicate, IfOk, MatchOption, MatchResult};
 ghost use Rattle.tables.specs.Tables.{TooMany as TooManyCodes};
 ghost use Rattle.build.specs.Discovery.{Ready};
-ghost use Rattle.build.specs.Imaging.{Built};
-ghost use Rattle.build.specs.Building.{Leaves, Answers};
+ghost use Rattle.build.specs.Imaging.{serves, Built};
+ghost use Rattle.build.specs.Building.{Builds, Leaves, Answers};
 
 use crate::discover::discover;
 use crate::found::TooMany;
@@ -44,6 +44,40 @@ fn build_found<M: Machine>(
     Ok(count)
 }
 
+// The layout to build in, or none where the numbers or the memory do not serve.
+fn served<M: Machine>(
+    machine: &M,
+    most: usize,
+    codes: &[u64],
+    cells: &[u8],
+    classes: &[u8],
+) -> Option<Layout>
+    ensures { MatchOption result (serves (M.Machine.meaning machine.now) most (length codes.now) (length cells.now) (length classes.now) ≡ false) (λ layout. (serves (M.Machine.meaning machine.now) most (length codes.now) (length cells.now) (length classes.now) ≡ true) × (layout.most ≡ most) × Ready (M.Machine.meaning machine.now) layout (length codes.now) (length cells.now) × (2 * most ≤ length classes.now)) }
+{
+    let layout = Layout::new(machine.shape(), most)?;
+    if codes.len() < most || cells.len() < layout.width() || classes.len() < 2 * most {
+        return None;
+    }
+    Some(layout)
+}
+
+// Leaves the image of the machine's table in the first cells, and says how many states it has.
+// Unserved where the shape is outside its limits, `most` is not 1 to 32, or too little memory is lent: `most` codes, the
+// bytes of the image, and two classes for each of `most` codes.
+// What it leaves in the other lent memory is free: none is cleared, so what is lent past the need costs no time.
+pub fn build_table<M: Machine>(
+    machine: &M,
+    most: usize,
+    codes: &mut [u64],
+    cells: &mut [u8],
+    classes: &mut [u8],
+) -> Result<u8, Unbuilt>
+    ensures { Builds (M.Machine.meaning machine.now) most (length codes.old) (length cells.old) (length classes.old) cells.new result }
+{
+    let layout = served(machine, most, codes, cells, classes).ok_or(Unbuilt::Unserved)?;
+    build_found(machine, layout, codes, cells, classes).map_err(|_| Unbuilt::TooMany)
+}
+
 // Builds in cells that are all the image's: where there are too many codes, what discovery wrote is cleared.
 fn build_image<M: Machine>(
     machine: &M,
@@ -75,11 +109,8 @@ fn build_served<M: Machine>(
 ) -> Result<u8, Unbuilt>
     ensures { Answers (M.Machine.meaning machine.now) most (length codes.old) (length classes.old) cells.old cells.new result }
 {
-    let layout = Layout::new(machine.shape(), most).ok_or(Unbuilt::Unserved)?;
+    let layout = served(machine, most, codes, cells, classes).ok_or(Unbuilt::Unserved)?;
     let width = layout.width();
-    if codes.len() < most || cells.len() < width || classes.len() < 2 * most {
-        return Err(Unbuilt::Unserved);
-    }
     build_image(machine, layout, codes, &mut cells[..width], classes)
 }
 
@@ -87,7 +118,7 @@ fn build_served<M: Machine>(
 // zeros, and on too many codes so do the image's cells; the other cells stay.
 // Unserved, with every cell as it was, where the shape is outside its limits, `most` is not 1 to 32, or too little memory is
 // lent: `most` codes, the bytes of the image, and two classes for each of `most` codes.
-pub fn build_table<M: Machine>(
+pub fn build_cleared<M: Machine>(
     machine: &M,
     most: usize,
     codes: &mut [u64],

@@ -9,5 +9,5 @@ mod refine;
 mod steps;
 mod unbuilt;
 
-pub use building::build_table;
+pub use building::{build_cleared, build_table};
 pub use unbuilt::Unbuilt;

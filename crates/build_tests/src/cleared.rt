@@ -1,6 +1,6 @@
 // Tests of tables built with all lent memory said.
 use atoms::{Left, Sing};
-use build::{Unbuilt, build_table};
+use build::{Unbuilt, build_cleared};
 use layers::{Both, Exists, Not};
 use machine::Machine;
 use machines::SlotTable;
@@ -23,7 +23,7 @@ const SMALL: Shape = Shape {
 fn build<M: Machine>(machine: &M, most: usize, cells: &mut [u8]) -> Result<u8, Unbuilt> {
     let mut codes = [7u64; 16];
     let mut classes = [7u8; 32];
-    build_table(machine, most, &mut codes, cells, &mut classes)
+    build_cleared(machine, most, &mut codes, cells, &mut classes)
 }
 
 // The inner cells of the table of "exactly one", a row for each left state: of a node outside the track, then of one in it.
@@ -59,7 +59,7 @@ fn memory_is_cleared(rt: HostRuntime) -> Result<(), Fail> {
     let mut codes = [7u64; 5];
     let mut cells = [7u8; 39];
     let mut classes = [7u8; 9];
-    let built = build_table(&machine, 4, &mut codes, &mut cells, &mut classes);
+    let built = build_cleared(&machine, 4, &mut codes, &mut cells, &mut classes);
     assert!(rt; built == Ok(3));
     assert!(rt; codes == [0; 5]);
     assert!(rt; classes == [0; 9]);

@@ -5,7 +5,7 @@ ghost use Rattle.racks.specs.Promises.{lent_by};
 ghost use Rattle.filling.specs.Fillings.{Makes, MakesAtom, SameMemory};
 
 use atoms::{Atom, Below, Lab, Left, Right, Sing, Sub};
-use build::{Unbuilt, build_table};
+use build::{Unbuilt, build_cleared};
 use machine::Machine;
 use racks::Working;
 use store::{Place, Slot, refused};
@@ -23,7 +23,7 @@ pub(crate) fn build_in<M: Machine>(
 {
     let most = slot.slots.rack.most;
     // neither type is of this crate, so there is no `From` between them
-    match build_table(machine, most, working.codes, working.cells, working.classes) {
+    match build_cleared(machine, most, working.codes, working.cells, working.classes) {
         Ok(_) => Ok(slot.place()),
         Err(Unbuilt::TooMany) => Err(refused(Reason::TooManyStates)),
         Err(Unbuilt::Unserved) => Err(refused(Reason::MemoryTooShort)),

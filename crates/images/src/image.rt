@@ -5,7 +5,7 @@ ghost use Rattle.build.specs.Imaging.{Built};
 ghost use Rattle.build.specs.Building.{Answers};
 
 use crate::fault::Fault;
-use build::{Unbuilt, build_table};
+use build::{Unbuilt, build_cleared};
 use machine::Machine;
 use machines::SlotTable;
 use slots::Layout;
@@ -19,7 +19,7 @@ pub fn build_in<M: Machine>(machine: &M, most: usize, cells: &mut [u8]) -> Resul
 {
     let mut codes = [0u64; Layout::MOST_STATES];
     let mut classes = [0u8; 2 * Layout::MOST_STATES];
-    build_table(machine, most, &mut codes, cells, &mut classes)
+    build_cleared(machine, most, &mut codes, cells, &mut classes)
 }
 
 #[derive(Drop)]
