@@ -8,5 +8,5 @@ mod projection;
 mod set_codes;
 
 pub use complement::Not;
-pub use product::{And, Both, Connective, Either, Or, Product, same_shape};
+pub use product::{And, Both, Connective, Either, Logical, Or, Product, same_shape};
 pub use projection::Exists;

@@ -13,13 +13,16 @@ const MOST_CODES: u64 = 0x1_0000_0000;
 pub trait Connective {
     ghost op: { Bool → Bool → Bool };
 
+    fn join(&self, left: bool, right: bool) -> bool
+        ensures { result ≡ op left right };
+}
+
+// A connective that a connective of statements stands for. It is asked for where a product is said to accept by it.
+pub trait Logical: Connective {
     // what it makes of two statements
     ghost joins: { Type 0 → Type 0 → Type 0 };
 
-    fn join(&self, left: bool, right: bool) -> bool
-        ensures { result ≡ op left right };
-
-    ghost joined: { (a b : Bool) → T (op a b) ↔ joins (T a) (T b) };
+    ghost joined: { (a b : Bool) → T (Self.op a b) ↔ joins (T a) (T b) };
 }
 
 #[derive(Clone, Copy, Default, PartialEq, Eq, Debug)]
@@ -31,25 +34,29 @@ pub struct Or;
 impl Connective for And {
     ghost op = { ◌&&◌ };
 
-    ghost joins = { λ P Q. P × Q };
-
-    ghost joined = { and_iff };
-
     fn join(&self, left: bool, right: bool) -> bool {
         left && right
     }
 }
 
+impl Logical for And {
+    ghost joins = { λ P Q. P × Q };
+
+    ghost joined = { and_iff };
+}
+
 impl Connective for Or {
     ghost op = { ◌||◌ };
-
-    ghost joins = { λ P Q. P ⊎ Q };
-
-    ghost joined = { or_iff };
 
     fn join(&self, left: bool, right: bool) -> bool {
         left || right
     }
+}
+
+impl Logical for Or {
+    ghost joins = { λ P Q. P ⊎ Q };
+
+    ghost joined = { or_iff };
 }
 
 // The code of a pair is the left code times the count of the right machine, plus the right code.
@@ -102,9 +109,9 @@ impl<C: Connective + Drop, A: Machine + Drop, B: Machine + Drop> Product<C, A, B
     }
 }
 
-impl<C: Connective + Default + Drop, A: Machine + Drop, B: Machine + Drop> Product<C, A, B> {
+impl<C: Logical + Default + Drop, A: Machine + Drop, B: Machine + Drop> Product<C, A, B> {
     pub fn new(left: A, right: B) -> Result<Product<C, A, B>, Refusal>
-        ensures { MatchResult result (λ n. MadeJoined C.Connective.op C.Connective.joins (A.Machine.meaning left) (B.Machine.meaning right) (product_meaning C.Connective.op A.Machine.meaning B.Machine.meaning n)) (λ e. pair_refusal (A.Machine.meaning left) (B.Machine.meaning right) ≡ Some e) }
+        ensures { MatchResult result (λ n. MadeJoined C.Connective.op C.Logical.joins (A.Machine.meaning left) (B.Machine.meaning right) (product_meaning C.Connective.op A.Machine.meaning B.Machine.meaning n)) (λ e. pair_refusal (A.Machine.meaning left) (B.Machine.meaning right) ≡ Some e) }
     {
         Product::of(C::default(), left, right)
     }
