@@ -163,8 +163,11 @@ impl Tally {
         let machine = SlotTable::new(cells.as_slice(), shape, usize::from(ROOM));
         let most = usize::from(random.byte_below(9).saturating_add(4));
         let expected = image_of(alloc, &machine, most)?;
-        let built = Image::build(alloc, &machine, most);
-        self.count(&built, &expected);
+        match Image::build(alloc, &machine, most) {
+            // no memory is no mismatch
+            Err(Fault::Io(fault)) => return Err(fault),
+            built => self.count(&built, &expected),
+        }
         Ok(())
     }
 }
