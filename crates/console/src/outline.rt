@@ -26,6 +26,11 @@ impl fmt::Display for Tracks {
     }
 }
 
+// Two blanks for each of so many levels, which are written at once: each piece written costs a call.
+const BLANKS: &str = "                                                                ";
+
+const LEVELS: usize = 32;
+
 // The row of a node under `depth` others.
 #[derive(Clone, Copy)]
 struct Row<'a> {
@@ -37,9 +42,10 @@ struct Row<'a> {
 
 impl fmt::Display for Row<'_> {
     fn fmt<W: fmt::Write>(&self, f: &mut fmt::Formatter<W>) -> fmt::Result {
-        for _ in 0..self.depth {
-            f.write_str("  ")?;
+        for _ in 0..self.depth / LEVELS {
+            f.write_str(BLANKS)?;
         }
+        f.write_str(BLANKS.get(..2 * (self.depth % LEVELS)).unwrap_or(""))?;
         let (kind, label, marks) = match self.root {
             Root::Leaf { label, marks } => ("leaf", label, marks),
             Root::Inner { label, marks, .. } => ("inner", label, marks),
