@@ -1,6 +1,8 @@
 // Writes the listing of a small rule: exactly one node is in track 0, over trees with one leaf label and one inner label.
 #![tactic(auto)]
 
+ghost use Rattle.std.specs.Prelude.{◌≤◌, length, IfOk};
+
 use anyhow::anyhow;
 use rack::{Atom, Working, atom, guarantee, list, make};
 use trees::Refusal;
@@ -15,7 +17,9 @@ const SLOTS: usize = 2;
 const WIDTH: usize = 1 + MOST + 2 + 2 * MOST * MOST;
 
 // Fills slot 0 of a new rack, and writes its listing to the front of the buffer.
-fn write_listing(buffer: &mut [u8]) -> Result<&[u8], Refusal> {
+fn write_listing(buffer: &mut [u8]) -> Result<&[u8], Refusal>
+    ensures { IfOk result (λ listing. length listing.now ≤ length buffer.old) }
+{
     let mut store = [0u8; SLOTS * WIDTH];
     let mut codes = [0u64; MOST];
     let mut cells = [0u8; WIDTH];
